@@ -2,7 +2,7 @@
 use mathlib.Core.Bool.{Bool, true, false, ◌&&◌, ◌||◌, not}
 use mathlib.Core.List.{List}
 use mathlib.Core.Option.{Option, none, some}
-use mathlib.Core.Path.{◌≡◌, refl, sym, ap, ◌∙◌}
+use mathlib.Core.Path.{◌≡◌, refl, sym, ◌∙◌}
 use Prim.Native.Nat.{ℕ, zero, suc, ◌+◌, ◌-◌, ◌<◌, ◌≤◌, ◌/◌, ◌%◌, ◌^◌}
 use native.Mathlib.Decide.{dec_le}
 use native.Mathlib.Nat.{zero-div}
@@ -17,33 +17,23 @@ use Rattle.machine.proofs.Decoded.{of-operation, of_two, of_word}
 use Rattle.machine.proofs.Lengths.{length-rule, length_none, length-operation, length-between, length_above}
 use Rattle.machine.specs.Decode.{fetch, input_any, return, end_choice, decode_operation, decode_two, decode_one, decode_word, decode_at, decode}
 use Rattle.machine.specs.Lengths.{length_rule, length_of}
-use Rattle.rights.specs.Rights.{bit_of, granted, operation_of, allows, right, lowest, denied, says, admit}
+use Rattle.rights.specs.Rights.{bit_of, granted, operation_of, allows, right, lowest, denied, admit}
 use Rattle.loading.specs.Taking.{reached, taken}
+use Rattle.std.specs.Prelude.{Ok, Err, Some, None}
+use Rattle.std.specs.Int.Bits.{bit_and}
+use Rattle.std.proofs.lemmas.Nat.{and_mask}
+use Rattle.admission.specs.Told.{said, Lowest}
+use Rattle.admission.specs.declared.Denial.TheVariants.{NotTaken, NotGranted}
 use Rattle.admission.specs.Flags.{Flagged, AllFlagged, wrong_at}
 use Rattle.loader.proofs.Visits.{decode-none, decode-one}
 
 -- The set
 
-pub weight-at : (j k w : ℕ) → j ≡ k → w ≡ 2 ^ (7 - k) → 0 < w → (w ≡ 2 ^ (7 - j)) × (0 < w)
-weight-at j k w e f h = (f ∙ ap (λ (x : ℕ). 2 ^ (7 - x)) (sym e), h)
-
-pub is-seven : (j : ℕ) → j < 8 → (j ≡ 0 → ⊥) → (j ≡ 1 → ⊥) → (j ≡ 2 → ⊥) → (j ≡ 3 → ⊥) → (j ≡ 4 → ⊥) → (j ≡ 5 → ⊥) → (j ≡ 6 → ⊥) → j ≡ 7
-is-seven j h a b c d e f g =
-    let n₁ = above j 0 (omega arith) a in
-    let n₂ = above j 1 n₁ b in
-    let n₃ = above j 2 n₂ c in
-    let n₄ = above j 3 n₃ d in
-    let n₅ = above j 4 n₄ e in
-    let n₆ = above j 5 n₅ f in
-    let n₇ = above j 6 n₆ g in
-    omega arith
-  where
-    above : (x k : ℕ) → k ≤ x → (x ≡ k → ⊥) → suc k ≤ x
-    above x k p q = elim (dec_le (suc k) x) [ yes t ↦ t | no n ↦ absurd (q (omega arith)) ]
-
-pub grants-there : (set : List ℕ) (op w : ℕ) → 256 ≤ op → w ≡ 2 ^ (7 - (op - 256) % 8) → eqb (get_or set ((op - 256) / 8) 0 / w % 2) 1 ≡ granted set op
+pub grants-there : (set : List ℕ) (op b x : ℕ) → 256 ≤ op → b ≡ get_or set ((op - 256) / 8) 0 → x ≡ bit_and (b / 2 ^ (7 - (op - 256) % 8)) 1 → eqb x 1 ≡ granted set op
 unfolding granted bit_of
-grants-there set op w a e = rw (le-leb 256 op a, e)
+grants-there set op b x a e f =
+    let m : bit_and (b / 2 ^ (7 - (op - 256) % 8)) 1 ≡ b / 2 ^ (7 - (op - 256) % 8) % 2 = and_mask (b / 2 ^ (7 - (op - 256) % 8)) 1 in
+    rw (le-leb 256 op a, f, m, e) refl
 
 pub grants-past : (set : List ℕ) (op : ℕ) → 256 ≤ op → length set ≤ (op - 256) / 8 → false ≡ granted set op
 unfolding granted bit_of
@@ -153,13 +143,13 @@ lowest-on T set size l r h w e =
     let b : l + 1 ≡ suc l = omega arith in
     rw b (rw (a, w) at e)
 
-pub lowest-here : (T set : List ℕ) (size l r : ℕ) → l ≤ size → wrong_at T set l ≡ true → lowest T set (size + 1 - l) l ≡ r → l ≡ r
+pub lowest-here : (T set : List ℕ) (size l r : ℕ) → 1 ≤ l → l ≤ size → wrong_at T set l ≡ true → lowest T set (size + 1 - l) l ≡ r → Lowest r (Some l)
 unfolding lowest wrong_at
-lowest-here T set size l r h w e = let a : size + 1 - l ≡ suc (size + 1 - (l + 1)) = omega arith in rw (a, w) at e
+lowest-here T set size l r a h w e = let b : size + 1 - l ≡ suc (size + 1 - (l + 1)) = omega arith in (a, sym (rw (b, w) at e))
 
-pub lowest-end : (T set : List ℕ) (size l r : ℕ) → size < l → lowest T set (size + 1 - l) l ≡ r → 0 ≡ r
+pub lowest-end : (T set : List ℕ) (size l r : ℕ) → size < l → lowest T set (size + 1 - l) l ≡ r → Lowest r None
 unfolding lowest
-lowest-end T set size l r h e = let a : size + 1 - l ≡ 0 = omega arith in rw a at e
+lowest-end T set size l r h e = let a : size + 1 - l ≡ 0 = omega arith in sym (rw a at e)
 
 pub denied-from : (T set : List ℕ) (size : ℕ) → size ≡ length T → lowest T set (size + 1 - 1) 1 ≡ denied T set
 unfolding denied
@@ -168,14 +158,14 @@ denied-from T set size e = let a : size + 1 - 1 ≡ length T = omega arith in rw
 -- The answer
 
 module _ (T set : List ℕ) where
-  pub not_taken : false ≡ taken T → says 41 0 ≡ admit T set
+  pub not_taken : false ≡ taken T → said (Err NotTaken) ≡ admit T set
   unfolding admit
-  not_taken e = rw (← e)
+  not_taken e = rw (← e) refl
 
-  pub all-granted : true ≡ taken T → (at : ℕ) → at ≡ denied T set → at ≡ 0 → says 0 0 ≡ admit T set
+  pub all-granted : true ≡ taken T → Lowest (denied T set) None → (done : Unit {0}) → said (Ok done) ≡ admit T set
   unfolding admit
-  all-granted e at d z = let q : denied T set ≡ 0 = sym d ∙ z in rw (← e, q)
+  all-granted e q done = rw (← e, q) refl
 
-  pub one-denied : true ≡ taken T → (at : ℕ) → at ≡ denied T set → (at ≡ 0 → ⊥) → says 48 at ≡ admit T set
+  pub one-denied : true ≡ taken T → (l : ℕ) → Lowest (denied T set) (Some l) → said (Err (NotGranted l)) ≡ admit T set
   unfolding admit
-  one-denied e at d z = rw (← e, ← d, ne_eqb at 0 z)
+  one-denied e l q = rw (← e, q.1, ne_eqb l 0 (λ z. omega (arith, z, q.0))) refl

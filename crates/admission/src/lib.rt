@@ -1,76 +1,74 @@
 // Rights over the operations: whether a table is admitted for the publisher who holds a granted set.
 #![tactic(auto)]
 
-ghost use Rattle.std.specs.Prelude.{◌≡◌, ◌-◌, ◌^◌, ◌<◌, ◌≤◌};
+ghost use Rattle.std.specs.Prelude.{◌≡◌, ◌≤◌};
 ghost use Rattle.loading.specs.File.{load, lent_bytes};
 ghost use Rattle.machine.specs.Bytes.{count, table_of};
-ghost use Rattle.rights.specs.Rights.{granted, denied, says, admit, admit_loaded, tells};
+ghost use Rattle.rights.specs.Rights.{granted, denied, admit, admit_loaded};
 ghost use Rattle.admission.specs.Flags.{Flagged, AllFlagged, wrong_at};
+ghost use Rattle.admission.specs.Told.{denial_number, location_in, said, told, Lowest};
+ghost use Rattle.admission.specs.declared.AdmissionError.TheVariants.{NotLoaded};
 
 use base::TABLE_WORDS;
-use machine::FIRST_OPERATION;
+use loader::{FileError, Loaded};
+use machine::{FIRST_OPERATION, LAST_OPERATION};
 
 // The bits of a byte of the set.
 const BYTE_BITS: usize = 8;
 
-// What an admission answers: 0, 41 or 48, and the location that 48 names.
-#[derive(Clone, Copy)]
-pub struct Admission {
-    pub number: u16,
-    pub location: usize,
+// Why a table is not admitted: the loader does not take it, or an operation is not granted, with the lowest location at which one is reached.
+#[derive(Clone, Copy, Debug, PartialEq, Eq)]
+pub enum Denial {
+    NotTaken,
+    NotGranted(usize),
 }
 
-// What loading and admitting answers: 0, 40, 20, 41 or 48; the words of the table; the sender's verdict word; the location that 48 names.
-#[derive(Clone, Copy)]
-pub struct Outcome {
-    pub number: u16,
-    pub words: usize,
-    pub verdict: usize,
-    pub location: usize,
+// The number that C is told of it.
+impl From<Denial> for u16 {
+    ghost from_gives = { λ denial n. n ≡ denial_number denial };
+
+    fn from(denial: Denial) -> u16 {
+        match denial {
+            Denial::NotTaken => base::NOT_TAKEN,
+            Denial::NotGranted(_) => base::NOT_GRANTED,
+        }
+    }
 }
 
-// The value of bit j of a byte, the highest first.
-fn weight(j: usize) -> u8
-    requires { j < 8 }
-    ensures { (result ≡ 2 ^ (7 - j)) × (0 < result) }
+// The location that it names, 0 for none.
+pub fn location_of(denial: Denial) -> usize
+    ensures { result ≡ location_in denial }
 {
-    if j == 0 {
-        return 128;
+    match denial {
+        Denial::NotTaken => 0,
+        Denial::NotGranted(location) => location,
     }
-    if j == 1 {
-        return 64;
-    }
-    if j == 2 {
-        return 32;
-    }
-    if j == 3 {
-        return 16;
-    }
-    if j == 4 {
-        return 8;
-    }
-    if j == 5 {
-        return 4;
-    }
-    if j == 6 {
-        return 2;
-    }
-    1
 }
 
-// Whether the operation is in the set.
+// Why a file's table is not loaded and admitted: the file is not loaded, or the table is denied; then it stays where it was loaded.
+#[derive(Clone, Copy, Debug, PartialEq, Eq)]
+pub enum AdmissionError {
+    NotLoaded(FileError),
+    Denied(Loaded, Denial),
+}
+
+impl From<FileError> for AdmissionError {
+    ghost from_gives = { λ error e. e ≡ NotLoaded error };
+
+    fn from(error: FileError) -> AdmissionError {
+        AdmissionError::NotLoaded(error)
+    }
+}
+
+// Whether the operation is in the set: each byte's bits from the highest on.
 fn grants(set: &[u8], op: usize) -> bool
     requires { 256 ≤ op }
     ensures { result ≡ granted set.now op }
 {
     let k = op - FIRST_OPERATION;
-    let i = k / BYTE_BITS;
-    if i < set.len() {
-        let b = set[i];
-        let w = weight(k % BYTE_BITS);
-        b / w % 2 == 1
-    } else {
-        false
+    match set.get(k / BYTE_BITS) {
+        Some(byte) => (*byte >> (BYTE_BITS - 1 - k % BYTE_BITS)) & 1 == 1,
+        None => false,
     }
 }
 
@@ -83,76 +81,49 @@ fn is_wrong(table: &[u8], set: &[u8], seen: &[u8], l: usize) -> bool
         return false;
     }
     let i = loader::word_at(table, l);
-    if i < FIRST_OPERATION {
-        return false;
+    match i {
+        FIRST_OPERATION..=LAST_OPERATION => !grants(set, i),
+        _ => false,
     }
-    if machine::LAST_OPERATION < i {
-        return false;
-    }
-    !grants(set, i)
 }
 
-// The lowest location at which an operation is reached that is not granted; 0 if there is none.
-fn lowest_denied(table: &[u8], set: &[u8], seen: &[u8], size: usize) -> usize
+// The lowest location at which an operation is reached that is not granted.
+fn lowest_denied(table: &[u8], set: &[u8], seen: &[u8], size: usize) -> Option<usize>
     requires { AllFlagged (table_of table.now) seen.now size }
-    ensures { result ≡ denied (table_of table.now) set.now }
+    ensures { Lowest (denied (table_of table.now) set.now) result }
 {
-    let mut l: usize = 1;
-    while l <= size {
+    for l in 1..size + 1 {
         if is_wrong(table, set, seen, l) {
-            return l;
+            return Some(l);
         }
-        l += 1;
     }
-    0
+    None
 }
 
 // Whether a table is admitted for the publisher who holds the set.
 #[inline(never)]
-pub fn admits(table: &[u8], set: &[u8]) -> Admission
-    ensures { says result.number result.location ≡ admit (table_of table.now) set.now }
+pub fn admits(table: &[u8], set: &[u8]) -> Result<(), Denial>
+    ensures { said result ≡ admit (table_of table.now) set.now }
 {
     let mut seen = [0u8; TABLE_WORDS];
     let mut order = [0u16; TABLE_WORDS];
     if !loader::reach(table, &mut seen, &mut order) {
-        return Admission {
-            number: base::NOT_TAKEN,
-            location: 0,
-        };
+        return Err(Denial::NotTaken);
     }
-    let at = lowest_denied(table, set, &seen, loader::size_of(table));
-    if at == 0 {
-        return Admission {
-            number: 0,
-            location: 0,
-        };
-    }
-    Admission {
-        number: base::NOT_GRANTED,
-        location: at,
+    match lowest_denied(table, set, &seen, loader::size_of(table)) {
+        Some(location) => Err(Denial::NotGranted(location)),
+        None => Ok(()),
     }
 }
 
 // A file is loaded into the lent table, and its table admitted or turned away; it stays there where an operation is not granted.
-pub fn load_admitted(file: &[u8], set: &[u8], table: &mut [u8]) -> Outcome
-    ensures location_value { tells result.number result.words result.verdict result.location ≡ admit_loaded set.now (load file.now (count table.old)) }
+pub fn load_admitted(file: &[u8], set: &[u8], table: &mut [u8]) -> Result<Loaded, AdmissionError>
+    ensures told { told result ≡ admit_loaded set.now (load file.now (count table.old)) }
     ensures lent { table.new ≡ lent_bytes (load file.now (count table.old)) table.old }
 {
-    let a = loader::load(file, table);
-    if a.number != 0 {
-        return Outcome {
-            number: a.number,
-            words: 0,
-            verdict: 0,
-            location: 0,
-        };
-    }
-    let end = 2 * a.words;
-    let v = admits(&table[..end], set);
-    Outcome {
-        number: v.number,
-        words: a.words,
-        verdict: a.verdict,
-        location: v.location,
+    let loaded = loader::load(file, table)?;
+    match admits(&table[..2 * loaded.words], set) {
+        Ok(()) => Ok(loaded),
+        Err(denial) => Err(AdmissionError::Denied(loaded, denial)),
     }
 }

@@ -1,5 +1,5 @@
 -- Laws of the shared tests, and of numbers.
-use mathlib.Core.Bool.{Bool, true, false, ◌||◌}
+use mathlib.Core.Bool.{Bool, true, false, ◌&&◌, ◌||◌}
 use mathlib.Core.List.{List, [], ◌∷◌, ◌++◌}
 use mathlib.Core.Logic.{◌⊎◌, inl, inr}
 use mathlib.Core.Path.{◌≡◌, refl, sym}
@@ -7,6 +7,7 @@ use Prim.Native.Nat.{ℕ, zero, suc, ◌+◌, ◌<◌, ◌≤◌}
 use native.Mathlib.Numerals.{add-one}
 use native.Mathlib.Omega.{arith}
 use lib.Dec.{eqb, ltb}
+use lib.Pointwise.{pointwise}
 use lib.ListN.{length, get_or, drop, replicate, drop_of_length-le}
 use lib.Seq.{drop-cons}
 use borrow.Author.Tests.{eqb-true, eq-eqb, ne_eqb, ltb-true, ltb-false}
@@ -67,3 +68,14 @@ same_not a b i h k e = rw (drop-cons a i 0, drop-cons b i 0, ne_eqb (get_or a i 
 
 pub same_end : (a b : List ℕ) (i : ℕ) → length a ≤ i → length b ≤ i → same (drop i a) (drop i b) ≡ true
 same_end a b i h k = rw (drop_of_length-le a h, drop_of_length-le b k)
+
+-- what `==` answers at two slices of bytes
+pub same_slices : (a b : List ℕ) → pointwise eqb a b ≡ same a b
+same_slices [] [] = refl
+same_slices [] (y ∷ b) = refl
+same_slices (x ∷ a) [] = refl
+same_slices (x ∷ a) (y ∷ b) = go (eqb x y) (same_slices a b)
+  where
+    go : (t : Bool) → pointwise eqb a b ≡ same a b → (t && pointwise eqb a b) ≡ (if t then same a b else false)
+    go true e = e
+    go false e = refl

@@ -1,3 +1,4 @@
 pub mod Common
 pub mod Tree
 pub mod Bools
+pub mod Faults

@@ -1,7 +1,8 @@
 // What every other crate shares: definitions, the numbers of the answers, the limits, and small functions on numbers.
 #![tactic(auto)]
 
-ghost use Rattle.std.specs.Prelude.{◌≡◌, ◌%◌, ◌<◌, min, get_or};
+ghost use Rattle.std.specs.Prelude.{◌≡◌, ◌%◌, ◌<◌, get_or, take, drop};
+ghost use Rattle.base.specs.Faults.{fault_number};
 
 // What the processor says of a text: docs/FAULTS.md.
 pub const NO_WORD: u16 = 1;
@@ -27,6 +28,49 @@ pub const TOO_SHORT: u16 = 20;
 pub const CONTRADICTS: u16 = 45;
 
 pub const NO_FIGURE: u16 = 47;
+
+// Why a text is refused: docs/FAULTS.md says what each is.
+#[derive(Clone, Copy, Debug, PartialEq, Eq)]
+pub enum Fault {
+    NoWord,
+    NotAllowed,
+    Undeclared,
+    Repeated,
+    NotWanted,
+    LabelRepeated,
+    NoCycle,
+    WrongReturn,
+    OverLimit,
+    Contradicts,
+}
+
+// The number that C is told of it.
+impl From<Fault> for u16 {
+    ghost from_gives = { λ fault n. n ≡ fault_number fault };
+
+    fn from(fault: Fault) -> u16 {
+        match fault {
+            Fault::NoWord => NO_WORD,
+            Fault::NotAllowed => NOT_ALLOWED,
+            Fault::Undeclared => UNDECLARED,
+            Fault::Repeated => REPEATED,
+            Fault::NotWanted => NOT_WANTED,
+            Fault::LabelRepeated => LABEL_REPEATED,
+            Fault::NoCycle => NO_CYCLE,
+            Fault::WrongReturn => WRONG_RETURN,
+            Fault::OverLimit => OVER_LIMIT,
+            Fault::Contradicts => CONTRADICTS,
+        }
+    }
+}
+
+// A fault, and the place and the number of the bytes of its word.
+#[derive(Clone, Copy, Debug, PartialEq, Eq)]
+pub struct Refusal {
+    pub fault: Fault,
+    pub at: usize,
+    pub len: usize,
+}
 
 // What a call of a walk says: include/sst.h.
 pub const REFUSED: u16 = 21;
@@ -101,53 +145,31 @@ pub const ASK: u16 = 768;
 
 pub const ASK_WITH: u16 = 1024;
 
-// Numbers from one width to another: a cast in place would ask at each use that the number fits.
-
-pub fn wide(x: u16) -> usize
-    ensures { (result ≡ x) × (result < 65536) }
-{
-    x as usize
-}
-
-pub fn wide_64(x: u16) -> u64
-    ensures { (result ≡ x) × (result < 65536) }
-{
-    x as u64
-}
-
-pub fn byte_word(x: u8) -> u16
-    ensures { (result ≡ x) × (result < 256) }
-{
-    x as u16
-}
-
-pub fn byte(x: u8) -> usize
-    ensures { (result ≡ x) × (result < 256) }
-{
-    x as usize
-}
-
+// The low word of a number.
 pub fn low_word(x: u64) -> u16
     ensures { result ≡ x % 65536 }
 {
     (x % 65536) as u16
 }
 
-pub fn least(a: usize, b: usize) -> usize
-    ensures { result ≡ min a b }
-{
-    if a < b { a } else { b }
-}
-
 // The cell at i of a row, 0 past its end, and the same as an index.
 pub fn cell(row: &[u16], i: usize) -> u16
     ensures { result ≡ get_or row.now i 0 }
 {
-    if i < row.len() { row[i] } else { 0 }
+    row.get(i).copied().unwrap_or(0)
 }
 
 pub fn number(row: &[u16], i: usize) -> usize
     ensures { (result ≡ get_or row.now i 0) × (result < 65536) }
 {
-    wide(cell(row, i))
+    usize::from(cell(row, i))
+}
+
+// The part of a text from `start` on, as long as `len` or to the text's end.
+pub fn part<'a>(text: &'a [u8], start: usize, len: usize) -> &'a [u8]
+    ensures { result.now ≡ take len (drop start text.now) }
+{
+    let from = start.min(text.len());
+    let rest = &text[from..];
+    &rest[..len.min(rest.len())]
 }

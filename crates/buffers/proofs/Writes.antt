@@ -1,14 +1,16 @@
 -- Words written behind words.
 use mathlib.Core.List.{List, [], ◌∷◌, ◌++◌, append_assoc}
 use mathlib.Core.Path.{◌≡◌, refl, sym, ap, ◌∙◌}
-use Prim.Native.Nat.{ℕ, suc, ◌+◌, ◌*◌, ◌/◌, ◌%◌, ◌<◌, ◌≤◌}
+use Prim.Native.Nat.{ℕ, suc, ◌+◌, ◌*◌, ◌-◌, ◌/◌, ◌%◌, ◌<◌, ◌≤◌}
 use native.Mathlib.Numerals.{add-one}
 use native.Mathlib.Omega.{arith}
+use borrow.Rule.Slice.PartMut.{put_mid}
 use lib.ListN.{length, get_or, set, take, drop, length-append, length-drop}
-use lib.Seq.{set_at, drop-cons, take-suc, take_all, length-take-le}
+use lib.Seq.{sets, sets-eq, set_at, drop-cons, drop-drop, take-suc, take_all, length-take-le}
 use Rattle.machine.proofs.Bytes.{length-bytes_of, bytes_of-append}
 use Rattle.machine.specs.Bytes.{bytes_of, over}
-use Rattle.buffers.specs.Words.{put_word}
+use Rattle.std.specs.Int.{w16, w64, to_be_bytes}
+use Rattle.buffers.specs.Words.{put_word, put64}
 
 -- a word's two bytes behind k words
 two-behind : (A out : List ℕ) (k x : ℕ) → length A ≡ 2 * k → 2 * k + 2 ≤ length out
@@ -61,3 +63,44 @@ module _ (ws out₀ : List ℕ) (fits : 2 * length ws ≤ length out₀) where
 
   pub upto-end : (k : ℕ) → length ws ≤ k → over (bytes_of (take k ws)) out₀ ≡ over (bytes_of ws) out₀
   upto-end k h = ap (λ (z : List ℕ). over (bytes_of z) out₀) (take_all k ws h)
+
+-- A word and a number, copied into the bytes that they take
+
+mid-sets : (out vs : List ℕ) (a e : ℕ) → e ≡ a + length vs → e ≤ length out → put_mid a (e - a) out vs ≡ sets out a vs
+mid-sets out vs a e h fits =
+    let k : e - a ≡ length vs = omega arith in
+    ap (λ (n : ℕ). take a out ++ (vs ++ drop n (drop a out))) k ∙ ap (λ (z : List ℕ). take a out ++ (vs ++ z)) (drop-drop (length vs) a out)
+    ∙ sym (append_assoc (take a out) vs (drop (a + length vs) out)) ∙ sym (sets-eq vs out a (omega arith))
+
+pub word-copied : (out new : List ℕ) (i x : ℕ) → 2 * i + 1 < length out → x < 65536 → new ≡ to_be_bytes w16 x
+    → put_mid (2 * i) (2 * i + 2 - 2 * i) out new ≡ put_word out i x
+unfolding put_word
+word-copied out new i x h f e =
+    let b : x / 256 % 256 ≡ x / 256 = omega arith in
+    let s : new ≡ x / 256 ∷ x % 256 ∷ [] = e ∙ ap (λ (v : ℕ). v ∷ x % 256 ∷ []) b in
+    ap (λ (z : List ℕ). put_mid (2 * i) (2 * i + 2 - 2 * i) out z) s
+    ∙ mid-sets out (x / 256 ∷ x % 256 ∷ []) (2 * i) (2 * i + 2) (omega arith) (omega arith)
+    ∙ ap (λ (j : ℕ). set (set out (2 * i) (x / 256)) j (x % 256)) (sym (add-one (2 * i)))
+
+pub number-copied : (out new : List ℕ) (i n : ℕ) → 2 * i + 8 ≤ length out → n < 18446744073709551616 → new ≡ to_be_bytes w64 n
+    → put_mid (2 * i) (2 * i + 8 - 2 * i) out new ≡ put64 out i n
+unfolding put64 put_word
+number-copied out new i n h f e =
+    let p₁ : suc (2 * i) ≡ 2 * i + 1 = omega arith in
+    let p₂ : suc (suc (2 * i)) ≡ 2 * (i + 1) = omega arith in
+    let p₃ : suc (suc (suc (2 * i))) ≡ 2 * (i + 1) + 1 = omega arith in
+    let p₄ : suc (suc (suc (suc (2 * i)))) ≡ 2 * (i + 2) = omega arith in
+    let p₅ : suc (suc (suc (suc (suc (2 * i))))) ≡ 2 * (i + 2) + 1 = omega arith in
+    let p₆ : suc (suc (suc (suc (suc (suc (2 * i)))))) ≡ 2 * (i + 3) = omega arith in
+    let p₇ : suc (suc (suc (suc (suc (suc (suc (2 * i))))))) ≡ 2 * (i + 3) + 1 = omega arith in
+    let b₇ : n / 72057594037927936 % 256 ≡ n / 281474976710656 / 256 = omega arith in
+    let b₆ : n / 281474976710656 % 256 ≡ n / 281474976710656 % 256 = refl in
+    let b₅ : n / 1099511627776 % 256 ≡ n / 4294967296 % 65536 / 256 = omega arith in
+    let b₄ : n / 4294967296 % 256 ≡ n / 4294967296 % 65536 % 256 = omega arith in
+    let b₃ : n / 16777216 % 256 ≡ n / 65536 % 65536 / 256 = omega arith in
+    let b₂ : n / 65536 % 256 ≡ n / 65536 % 65536 % 256 = omega arith in
+    let b₁ : n / 256 % 256 ≡ n % 65536 / 256 = omega arith in
+    let b₀ : n % 256 ≡ n % 65536 % 256 = omega arith in
+    ap (λ (z : List ℕ). put_mid (2 * i) (2 * i + 8 - 2 * i) out z) e
+    ∙ mid-sets out (to_be_bytes w64 n) (2 * i) (2 * i + 8) refl (omega arith)
+    ∙ cc (p₁, p₂, p₃, p₄, p₅, p₆, p₇, b₇, b₅, b₄, b₃, b₂, b₁, b₀)

@@ -1,11 +1,10 @@
 -- A buffer whose whole words are 0, and words over zeros.
-use mathlib.Core.List.{List, [], ◌∷◌, ◌++◌, append_assoc}
+use mathlib.Core.List.{List, ◌++◌, append_assoc}
 use mathlib.Core.Path.{◌≡◌, sym, ap, ◌∙◌}
-use Prim.Native.Nat.{ℕ, suc, ◌+◌, ◌*◌, ◌-◌, ◌/◌, ◌<◌, ◌≤◌}
-use native.Mathlib.Numerals.{add-one}
+use Prim.Native.Nat.{ℕ, ◌+◌, ◌*◌, ◌-◌, ◌/◌, ◌≤◌}
 use native.Mathlib.Omega.{arith}
-use lib.ListN.{length, get_or, set, drop, replicate, length-append, length-drop, length-replicate, replicate-append-replicate}
-use lib.Seq.{set_at, drop-cons, drop_at}
+use lib.ListN.{length, take, drop, replicate, length-append, length-drop, length-replicate, replicate-append-replicate}
+use lib.Seq.{drop_at, length-take-le}
 use Rattle.machine.proofs.Bytes.{length-bytes_of, bytes_of-append, zero-bytes}
 use Rattle.machine.specs.Bytes.{count, bytes_of, over}
 use Rattle.buffers.specs.Words.{zeroed}
@@ -19,27 +18,14 @@ unfolding zeroed count
 length-zeroed t =
     omega (arith, length-append (bytes_of (replicate (length t / 2) 0)) (drop (2 * (length t / 2)) t), length-bytes_of (replicate (length t / 2) 0), length-replicate {A = ℕ} (length t / 2) 0, length-drop (2 * (length t / 2)) t)
 
--- The loop of `clear_words`: so many bytes from the start are 0
-
-more-zeros : (n : ℕ) → replicate {A = ℕ} n 0 ++ (0 ∷ []) ≡ replicate (n + 1) 0
-more-zeros n = replicate-append-replicate n 1 0
-
-pub zero-next : (out₀ out : List ℕ) (i : ℕ) → i < length out₀ → out ≡ replicate i 0 ++ drop i out₀ → set out i 0 ≡ replicate (i + 1) 0 ++ drop (i + 1) out₀
-zero-next out₀ out i h e =
-    let d = drop-cons out₀ i 0 h in
-    let s = set_at (replicate i 0) (get_or out₀ i 0) (drop (suc i) out₀) 0 i (length-replicate i 0) in
-    ap (λ (z : List ℕ). set z i 0) (e ∙ ap (λ (z : List ℕ). replicate i 0 ++ z) d) ∙ s
-    ∙ sym (append_assoc (replicate i 0) (0 ∷ []) (drop (suc i) out₀)) ∙ ap (λ (z : List ℕ). z ++ drop (suc i) out₀) (more-zeros i)
-    ∙ ap (λ (j : ℕ). replicate (i + 1) 0 ++ drop j out₀) (sym (add-one i))
-
-pub zero-end : (out₀ out : List ℕ) (i n : ℕ) → n ≡ length out₀ / 2 * 2 → i ≤ n → n ≤ i → out ≡ replicate i 0 ++ drop i out₀ → out ≡ zeroed out₀
-unfolding zeroed count
-zero-end out₀ out i n a b c e =
-    let q : i ≡ 2 * (length out₀ / 2) = omega arith in
-    e ∙ ap (λ (j : ℕ). replicate j 0 ++ drop j out₀) q ∙ ap (λ (z : List ℕ). z ++ drop (2 * (length out₀ / 2)) out₀) (sym (zero-bytes (length out₀ / 2)))
-
-pub zero-length : (out₀ : List ℕ) (i : ℕ) → i ≤ length out₀ → length (replicate {A = ℕ} i 0 ++ drop i out₀) ≡ length out₀
-zero-length out₀ i h = omega (arith, length-append (replicate {A = ℕ} i 0) (drop i out₀), length-replicate {A = ℕ} i 0, length-drop i out₀)
+-- what `fill` leaves in the whole words
+pub filled-zeroed : (out new : List ℕ) → new ≡ replicate (length (take (length out / 2 * 2) out)) 0 → new ++ drop (length out / 2 * 2) out ≡ zeroed out
+unfolding count
+filled-zeroed out new e =
+    let k : length out / 2 * 2 ≡ 2 * (length out / 2) = omega arith in
+    let l : length (take (length out / 2 * 2) out) ≡ 2 * (length out / 2) = length-take-le (length out / 2 * 2) out (omega arith) ∙ k in
+    ap (λ (z : List ℕ). z ++ drop (length out / 2 * 2) out) (e ∙ ap (λ (n : ℕ). replicate n 0) l)
+    ∙ ap (λ (n : ℕ). replicate (2 * (length out / 2)) 0 ++ drop n out) k ∙ sym (zeroed-is out)
 
 -- Words over zeros
 

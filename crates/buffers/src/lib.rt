@@ -6,8 +6,6 @@ ghost use Rattle.machine.specs.Bytes.{words_of};
 ghost use Rattle.machine.specs.Form.{number64};
 ghost use Rattle.buffers.specs.Words.{zeroed, put_word, put64};
 
-use base::wide_64;
-
 // How many values one word has, two words, and three.
 const ONE_WORD: u64 = 65536;
 
@@ -22,10 +20,10 @@ pub const NUMBER_WORDS: usize = 4;
 pub fn wide_word(s: &[u8], i: usize) -> u64
     ensures { (result ≡ get_or (words_of s.now) i 0) × (result < 65536) }
 {
-    wide_64(machine::word(s, i))
+    u64::from(machine::word(s, i))
 }
 
-// The four words from index i on as one number.
+// The four words from index i on as one number. Word by word: `from_be_bytes` would need eight bytes, and words past the end are 0 here.
 pub fn read_64(s: &[u8], i: usize) -> u64
     requires { i < 9223372036854775808 }
     ensures { result ≡ number64 (drop i (words_of s.now)) }
@@ -41,8 +39,7 @@ pub fn put_word(out: &mut [u8], i: usize, x: u16)
     requires { 2 * i + 1 < length out.old }
     ensures { out.new ≡ put_word out.old i x }
 {
-    out[2 * i] = (x / 256) as u8;
-    out[2 * i + 1] = (x % 256) as u8;
+    out[2 * i..2 * i + 2].copy_from_slice(&x.to_be_bytes());
 }
 
 // The number n as four words from index i on, the high one first.
@@ -50,10 +47,7 @@ pub fn put_64(out: &mut [u8], i: usize, n: u64)
     requires { 2 * i + 8 ≤ length out.old }
     ensures { out.new ≡ put64 out.old i n }
 {
-    put_word(out, i, (n / THREE_WORDS) as u16);
-    put_word(out, i + 1, (n / TWO_WORDS % ONE_WORD) as u16);
-    put_word(out, i + 2, (n / ONE_WORD % ONE_WORD) as u16);
-    put_word(out, i + 3, (n % ONE_WORD) as u16);
+    out[2 * i..2 * i + 8].copy_from_slice(&n.to_be_bytes());
 }
 
 // The number n as number i.
@@ -68,10 +62,6 @@ pub fn put_number(out: &mut [u8], i: usize, n: u64)
 pub fn clear_words(out: &mut [u8])
     ensures { out.new ≡ zeroed out.old }
 {
-    let n = out.len() / 2 * 2;
-    let mut i: usize = 0;
-    while i < n {
-        out[i] = 0;
-        i += 1;
-    }
+    let end = out.len() / 2 * 2;
+    out[..end].fill(0);
 }

@@ -1,14 +1,14 @@
 -- A rule's head: its name and its type, one law for each return.
-use mathlib.Core.Bool.{Bool, true, false, ◌&&◌, ◌||◌}
+use mathlib.Core.Bool.{Bool, true, false, ◌&&◌}
 use mathlib.Core.List.{List}
 use mathlib.Core.Option.{Option, none, some}
 use mathlib.Core.Path.{◌≡◌, refl, sym, ap, ◌∙◌, subst}
-use Prim.Native.Nat.{ℕ, ◌+◌, ◌<◌, ◌≤◌}
+use Prim.Native.Nat.{ℕ, ◌+◌, ◌≤◌}
 use lib.Dec.{eqb, ltb}
 use lib.ListN.{length, take, drop, length-take, length-drop}
 use native.Mathlib.Omega.{arith}
-use borrow.Author.Tests.{eq-eqb, ne_eqb}
-use Rattle.std.specs.Prelude.{if◌then◌else◌}
+use borrow.Author.Tests.{eq-eqb, ne_eqb, le-ltb}
+use Rattle.std.specs.Prelude.{if◌then◌else◌, Some, None}
 use Rattle.base.specs.Common.{given}
 use Rattle.builder.specs.Heads.{taken_before, head_of, HeadEnd, headed, misheaded, TypeDone, HeadDone}
 use Rattle.builder.specs.declared.Head.{Head}
@@ -18,30 +18,27 @@ use Rattle.names.specs.Known.{Checked, good, wrong, ◌>>=◌, fault_if}
 use Rattle.places.proofs.Heres.{Same, took-kind, took-here, not-here}
 use Rattle.scanner.specs.Next.{Next, as_word}
 use Rattle.scanner.specs.declared.WordAt.{WordAt}
-use Rattle.symbols.specs.Rows.{held, number_of, word_of, Looks, found, missing}
-use Rattle.symbols.specs.Search.{Tells, there, nowhere}
+use Rattle.symbols.proofs.Numbered.{Numbered, found, missing}
+use Rattle.symbols.proofs.Searches.{answer-some, answer-none}
+use Rattle.symbols.specs.Rows.{answer_of, held, word_of}
 use Rattle.words.specs.Words.{Word, words_at}
 
 pub word-length : {text : List ℕ} {at : ℕ} {w : WordAt} → Next text at w → at ≤ length text → length (as_word text w).text ≡ w.len
 word-length h q = simp (length-take, length-drop) (omega (arith, h.inside q))
 
 -- a name that an operation has
-pub operation-taken : (ds : List Decl) (i : ℕ) (w : List ℕ) {r : ℕ} → Tells r (index_of 6 w 0 ds) → r < 65536 → true ≡ taken_before ds i w
+pub operation-taken : (ds : List Decl) (i : ℕ) (w : List ℕ) → true ≡ given (index_of 6 w 0 ds) → true ≡ taken_before ds i w
 unfolding taken_before
-operation-taken ds i w {r} t h = go (index_of 6 w 0 ds) t
-  where
-    go : (o : Option ℕ) → Tells r o → true ≡ (given o || ltb (number_of (index_of 7 w 0 ds)) i)
-    go none (nowhere q) = absurd (omega (arith, q, h))
-    go (some j) q = refl
+operation-taken ds i w e = rw (sym e) refl
 
--- one that none has
-pub rule-taken : (ds : List Decl) (i : ℕ) (w : List ℕ) {r s : ℕ} → Tells r (index_of 6 w 0 ds) → 65536 ≤ r → s ≡ number_of (index_of 7 w 0 ds) → ltb s i ≡ taken_before ds i w
+-- one that none has: a rule's, or no declaration's
+pub rule-taken : (ds : List Decl) (i : ℕ) (w : List ℕ) {s : ℕ} → false ≡ given (index_of 6 w 0 ds) → Some s ≡ answer_of (index_of 7 w 0 ds) → ltb s i ≡ taken_before ds i w
 unfolding taken_before
-rule-taken ds i w {r} {s} t h f = ap (λ t. ltb t i) f ∙ go (index_of 6 w 0 ds) t
-  where
-    go : (o : Option ℕ) → Tells r o → ltb (number_of (index_of 7 w 0 ds)) i ≡ (given o || ltb (number_of (index_of 7 w 0 ds)) i)
-    go none _ = refl
-    go (some j) (there e k) = absurd (omega (arith, e, k, h))
+rule-taken ds i w e f = rw (sym e, answer-some (index_of 7 w 0 ds) f) refl
+
+pub rule_free : (ds : List Decl) (i : ℕ) (w : List ℕ) → i ≤ 640 → false ≡ given (index_of 6 w 0 ds) → None ≡ answer_of (index_of 7 w 0 ds) → false ≡ taken_before ds i w
+unfolding taken_before
+rule_free ds i w h e f = rw (sym e, answer-none (index_of 7 w 0 ds) f) (sym (le-ltb 65536 i (omega (arith, h))))
 
 -- a fault is at the word
 abbrev Owns : {A : Type 0} → Word → Checked A → Type 0
@@ -72,18 +69,18 @@ type-none {text} {rows} {n} {at} {h} {g} inn N k f a e = record { high = λ _. o
         headed f ((took-here text at 58 g colon ws (omega arith) N (subst (λ l. Took 58 l colon ws) q t)).behind ∙ ap (words_at text) (sym a)) e
     go (some v) colon ws₁ ws (gives_some {sign = s} {ws₁ = ws₂} t _) u = absurd (k (took-kind text at 256 g s ws₂ N t))
 
-looks-fail : {text : List ℕ} {ws : List Word} {h : Head} {f v : ℕ} (w : Word) (m : Checked ℕ) → Looks f v m → Owns w m → (f ≡ 0 → ⊥) → h.fault ≡ f → h.at ≡ w.start → h.len ≡ length w.text
+looks-fail : {text : List ℕ} {ws : List Word} {h : Head} {f v : ℕ} (w : Word) (m : Checked ℕ) → Numbered f v m → Owns w m → (f ≡ 0 → ⊥) → h.fault ≡ f → h.at ≡ w.start → h.len ≡ length w.text
     → HeadEnd text ws h m
 looks-fail w (good a) (found e _) o z e₁ e₂ e₃ = absurd (z e)
 looks-fail w (wrong n u) (missing e nz) o z e₁ e₂ e₃ = misheaded (e₁ ∙ e) nz (e₂ ∙ ap (λ (x : Word). x.start) (sym o)) (e₃ ∙ ap (λ (x : Word). length x.text) (sym o))
 
-looks-more : {text : List ℕ} {ws : List Word} {h : Head} {f v : ℕ} (m : Checked ℕ) → Looks f v m → f ≡ 0 → h.fault ≡ 0 → ws ≡ words_at text h.at → h.class ≡ v → HeadEnd text ws h m
+looks-more : {text : List ℕ} {ws : List Word} {h : Head} {f v : ℕ} (m : Checked ℕ) → Numbered f v m → f ≡ 0 → h.fault ≡ 0 → ws ≡ words_at text h.at → h.class ≡ v → HeadEnd text ws h m
 looks-more (good a) (found _ e) z e₁ e₂ e₃ = headed e₁ e₂ (e₃ ∙ e)
 looks-more (wrong n u) (missing e nz) z e₁ e₂ e₃ = absurd (nz (sym e ∙ z))
 
 pub type-fail : {text rows : List ℕ} {n at f v : ℕ} {h : Head} {g w : WordAt}
     → at ≤ length text → Next text at g → g.kind ≡ 256 → Next text g.next w
-    → ((kind : ℕ) → Looks f v (type_in (held text rows n) (held text rows n) (word_of text kind w.start w.len))) → (f ≡ 0 → ⊥)
+    → ((kind : ℕ) → Numbered f v (type_in (held text rows n) (held text rows n) (word_of text kind w.start w.len))) → (f ≡ 0 → ⊥)
     → h.fault ≡ f → h.at ≡ w.start → h.len ≡ w.len → TypeDone text rows n at h
 unfolding optional_in
 type-fail {text} {rows} {n} {at} {f} {v} {h} {g} {w} inn N k N₂ L z e₁ e₂ e₃ = record { high = λ e. absurd (z (sym e₁ ∙ e)); done = go }
@@ -99,7 +96,7 @@ type-fail {text} {rows} {n} {at} {f} {v} {h} {g} {w} inn N k N₂ L z e₁ e₂ 
 
 pub type-more : {text rows : List ℕ} {n at f v : ℕ} {h : Head} {g w d : WordAt}
     → at ≤ length text → Next text at g → g.kind ≡ 256 → Next text g.next w
-    → ((kind : ℕ) → Looks f v (type_in (held text rows n) (held text rows n) (word_of text kind w.start w.len))) → f ≡ 0
+    → ((kind : ℕ) → Numbered f v (type_in (held text rows n) (held text rows n) (word_of text kind w.start w.len))) → f ≡ 0
     → Next text w.next d → h.fault ≡ 0 → h.at ≡ d.next → h.class ≡ v → TypeDone text rows n at h
 unfolding optional_in
 type-more {text} {rows} {n} {at} {f} {v} {h} {g} {w} {d} inn N k N₂ L z N₃ e₁ e₂ e₃ =

@@ -134,10 +134,8 @@ fn put_labels(seen: &[u16], from: usize, to: usize, cells: &mut [u16], count: us
     ensures { Appends cells.old count (label_cells seen.now from to) cells.new result }
 {
     let mut c = resolver::put(cells, count, (ALTERNATIVE + (to - from)) as u16);
-    let mut i = from;
-    while i < to {
+    for i in from..to {
         c = resolver::put(cells, c, seen[i]);
-        i += 1;
     }
     c
 }
@@ -159,6 +157,7 @@ pub fn build_actions(
     let mut c = count;
     let mut past = true;
     let mut exits = false;
+    // no range: what is read says where the next begins
     loop {
         let w = look(text, i);
         if is_closing(w.kind) {
@@ -221,9 +220,8 @@ fn build_cycle(
 {
     let c = resolver::put(cells, count, cells::CYCLE);
     let body = Scope {
-        n: scope.n,
         inside: true,
-        class: scope.class,
+        ..scope
     };
     let b = build_actions(text, rows, body, at, cells, c);
     let d = b.done;
@@ -299,6 +297,7 @@ fn build_alternatives(
     let mut here = spot;
     let mut past = false;
     let mut exits = false;
+    // no range: what is read says where the next begins
     loop {
         let w = look(text, here.at);
         if w.kind == words::STAR {
@@ -400,15 +399,16 @@ fn build_otherwise(
 
 // An operation has the name, or a rule before declaration `before`.
 fn is_taken(text: &[u8], rows: &[u16], n: usize, before: usize, start: usize, len: usize) -> bool
-    requires { Kept text.now rows.now n }
+    requires { Kept text.now rows.now n × (before ≤ 640) }
     ensures { result ≡ taken_before (held text.now rows.now n) before (take len (drop start text.now)) }
 {
-    let o = symbols::find_row(text, rows, n, symbols::OPERATION, start, len);
-    if o < symbols::NONE {
+    if symbols::has_row(text, rows, n, symbols::OPERATION, start, len) {
         return true;
     }
-    let r = symbols::find_row(text, rows, n, symbols::RULE, start, len);
-    r < before
+    match symbols::find_row(text, rows, n, symbols::RULE, start, len) {
+        Some(rule) => rule < before,
+        None => false,
+    }
 }
 
 // A rule's type, where it has one, and its colon.
@@ -426,21 +426,23 @@ pub fn read_type(text: &[u8], rows: &[u16], n: usize, at: usize) -> Head
         };
     }
     let w = look(text, g.next);
-    let t = symbols::type_of(text, rows, n, n, w.start, w.len);
-    if t.fault != 0 {
-        return Head {
-            fault: t.fault,
-            at: w.start,
-            len: w.len,
-            class: 0,
-        };
-    }
+    let class = match symbols::type_of(text, rows, n, n, w.start, w.len) {
+        Ok(class) => class,
+        Err(fault) => {
+            return Head {
+                fault: u16::from(fault),
+                at: w.start,
+                len: w.len,
+                class: 0,
+            };
+        }
+    };
     let c = look(text, w.next);
     Head {
         fault: 0,
         at: c.next,
         len: 0,
-        class: t.value,
+        class,
     }
 }
 
@@ -587,6 +589,7 @@ pub fn build(
     let mut i = at;
     let mut c: usize = 0;
     let mut k: usize = 0;
+    // no range: what is read says where the next begins
     loop {
         let r = build_rule(text, rows, listed, k, i, cells, c);
         let d = r.done;

@@ -1,53 +1,21 @@
--- Laws of two lists compared in a loop, part against part.
-use mathlib.Core.Bool.{Bool, true, false, ◌&&◌, ◌||◌, not}
+-- Laws of rules looked up by places and by names.
+use mathlib.Core.Bool.{Bool, true, false, ◌&&◌, not}
 use mathlib.Core.List.{List}
 use mathlib.Core.Path.{◌≡◌, refl, sym, ap, ◌∙◌}
 use Prim.Native.Nat.{ℕ, zero, suc, ◌+◌, ◌*◌, ◌-◌, ◌<◌, ◌≤◌}
 use native.Mathlib.Omega.{arith}
 use lib.Dec.{eqb}
-use lib.ListN.{length, get_or, drop}
-use borrow.Author.Tests.{eqb-true, eq-eqb, ne_eqb, le-leb, lt-leb, lt-ltb, le-ltb}
-use Rattle.base.proofs.Laws.{above_zero, same_next, same_not, same_end}
-use Rattle.base.specs.Bools.{never}
+use lib.Pointwise.{pointwise}
+use lib.ListN.{get_or}
+use borrow.Author.Tests.{eqb-true, eqb-false, eq-eqb, ne_eqb, le-leb, lt-leb, lt-ltb, le-ltb}
+use Rattle.base.proofs.Laws.{above_zero, same_slices}
+use Rattle.base.specs.Bools.{never, split}
 use Rattle.std.specs.Prelude.{if◌then◌else◌}
 use Rattle.base.specs.Common.{same}
 use Rattle.carry.specs.Carry.{written, made, same_name}
-use Rattle.scanner.proofs.WordLaws.{part_at}
-use Rattle.symbols.proofs.Parts.{part-whole, part-own}
+use Rattle.carry.specs.Scan.{instruction, label, labels_left}
 use Rattle.symbols.specs.Search.{part}
 use Rattle.carrier.specs.Held.{count_held, size_held, number_held, name_held, last_held, rule_held, calls_held, find_held, end_held}
-
--- the parts lie in their lists, and the first k of each are the same
-pub record Alike (a : List ℕ) (i : ℕ) (b : List ℕ) (j n k : ℕ) : Type 0 where
-  pub in-a : n ≤ length a - i
-  pub in_b : n ≤ length b - j
-  pub low : k ≤ n
-  pub rest : same (drop k (part a i n)) (drop k (part b j n)) ≡ same (part a i n) (part b j n)
-
-pub alike-first : {a : List ℕ} {i : ℕ} {b : List ℕ} {j n : ℕ} → n ≤ length a - i → n ≤ length b - j → Alike a i b j n 0
-alike-first h l = record { in-a = h; in_b = l; low = omega arith; rest = refl }
-
-pub alike-not : {a : List ℕ} {i : ℕ} {b : List ℕ} {j n k : ℕ} → Alike a i b j n k → k < n → (get_or a (i + k) 0 ≡ get_or b (j + k) 0 → ⊥) → false ≡ same (part a i n) (part b j n)
-alike-not {a} {i} {b} {j} {n} {k} h m ne =
-    sym (same_not (part a i n) (part b j n) k (omega (arith, part-whole a i n h.in-a)) (omega (arith, part-whole b j n h.in_b)) (λ d. ne (sym (part_at a i n k m) ∙ d ∙ part_at b j n k m))) ∙ h.rest
-
-pub alike_next : {a : List ℕ} {i : ℕ} {b : List ℕ} {j n k : ℕ} → Alike a i b j n k → k < n → get_or a (i + k) 0 ≡ get_or b (j + k) 0 → Alike a i b j n (k + 1)
-alike_next {a} {i} {b} {j} {n} {k} h m d = record {
-  in-a = h.in-a;
-  in_b = h.in_b;
-  low = omega arith;
-  rest = sym (same_next (part a i n) (part b j n) k (omega (arith, part-whole a i n h.in-a)) (omega (arith, part-whole b j n h.in_b)) (part_at a i n k m ∙ d ∙ sym (part_at b j n k m))) ∙ h.rest;
-}
-
-pub alike_end : {a : List ℕ} {i : ℕ} {b : List ℕ} {j n k : ℕ} → Alike a i b j n k → n ≤ k → true ≡ same (part a i n) (part b j n)
-alike_end {a} {i} {b} {j} {n} {k} h m = sym (same_end (part a i n) (part b j n) k (omega (arith, part-whole a i n h.in-a)) (omega (arith, part-whole b j n h.in_b))) ∙ h.rest
-
-pub same-own : (a : List ℕ) (i ilen : ℕ) (b : List ℕ) (j jlen n : ℕ) → n ≡ length (part a i ilen) → n ≡ length (part b j jlen)
-    → same (part a i n) (part b j n) ≡ same (part a i ilen) (part b j jlen)
-same-own a i ilen b j jlen n e f = both (part-own a i ilen n e) (part-own b j jlen n f)
-  where
-    both : {x y u v : List ℕ} → x ≡ u → y ≡ v → same x y ≡ same u v
-    both p q = cc
 
 -- The rule in which a location lies
 
@@ -170,10 +138,6 @@ module _ (old sheet : List ℕ) (i : ℕ) (new other : List ℕ) (j : ℕ) where
       → s ≡ same (part old (get_or sheet (6 * i + 3) 0) (get_or sheet (6 * i + 4) 0)) (part new (get_or other (6 * j + 3) 0) (get_or other (6 * j + 4) 0)) → s ≡ Meet
   names-both a b r s d e q nz h t k = rw t at (names-made a b r s d e q nz h k)
 
--- parts by numbers that were read
-pub parts-as : {r : Bool} (old new : List ℕ) {a b c d a' b' c' d' : ℕ} → r ≡ same (part old a b) (part new c d) → a ≡ a' → b ≡ b' → c ≡ c' → d ≡ d' → r ≡ same (part old a' b') (part new c' d')
-parts-as old new h e f g k = h ∙ (λ i. same (part old (e i) (f i)) (part new (g i) (k i)))
-
 pub not_so : (b : Bool) → not b ≡ true → b ≡ false
 not_so true e = never e
 not_so false e = refl
@@ -200,14 +164,6 @@ module _ (old sheet new other : List ℕ) (x y : ℕ) where
       → r ≡ same_name (name_held old sheet i) (name_held new other j) → r ≡ Called
   unfolding calls_held
   calls-named i j r e n f m h = rw (← e, ← f, ne_eqb i 128 n, ne_eqb j 128 m) h
-
--- The instruction of a choice
-
-pub chooses-first : (i : ℕ) → i ≡ 7 → true ≡ (eqb i 7 || eqb i 11)
-chooses-first i e = rw e refl
-
-pub chooses-second : (i : ℕ) → (i ≡ 7 → ⊥) → eqb i 11 ≡ (eqb i 7 || eqb i 11)
-chooses-second i n = rw (ne_eqb i 7 n) refl
 
 -- The rule with a name
 
@@ -250,3 +206,39 @@ end-next sheet i r h e l = let z : 6 * (i + 1) + 0 ≡ 6 * (i + 1) = omega arith
 pub end-last : (sheet : List ℕ) (size i : ℕ) → count_held sheet ≤ i + 1 → size ≡ size_held sheet → size ≤ 4096 → (size + 1 ≡ end_held sheet i) × (size + 1 < 65536)
 unfolding end_held
 end-last sheet size i h e l = (rw (le-ltb (i + 1) (count_held sheet) h) (ap (λ (n : ℕ). n + 1) e), omega arith)
+
+-- What is expected behind the count of a choice table
+
+pub labels-none : (n : ℕ) → n ≡ 0 → instruction ≡ labels_left n
+unfolding labels_left
+labels-none n e = rw e refl
+
+pub labels-some : (n : ℕ) → (n ≡ 0 → ⊥) → label (n - 1) ≡ labels_left n
+unfolding labels_left
+labels-some zero h = absurd (h refl)
+labels-some (suc n) h = let z : suc n - 1 ≡ n = omega arith in rw z refl
+
+-- Parts compared as slices
+
+pub slices-same : {r : Bool} {x y u v : List ℕ} → r ≡ pointwise eqb x y → x ≡ u → y ≡ v → r ≡ same u v
+slices-same {r} {x} {y} h e f = h ∙ same_slices x y ∙ (λ i. same (e i) (f i))
+
+-- the first names differ
+pub names-unlike : {n : Bool} {x y : List ℕ} (old sheet : List ℕ) (i : ℕ) (new other : List ℕ) (j a b : ℕ) → a ≡ get_or sheet (6 * i + 5) 0 → b ≡ get_or other (6 * j + 5) 0 → a ≡ b
+    → n ≡ not (pointwise eqb x y) → n ≡ true → x ≡ part old (get_or sheet (6 * i + 1) 0) (get_or sheet (6 * i + 2) 0) → y ≡ part new (get_or other (6 * j + 1) 0) (get_or other (6 * j + 2) 0)
+    → false ≡ same_name (name_held old sheet i) (name_held new other j)
+names-unlike {n} {x} {y} old sheet i new other j a b d e q h t f g =
+    let z : pointwise eqb x y ≡ false = not_so (pointwise eqb x y) (sym h ∙ t) in
+    split (eqb a 0)
+    (λ k. names-written old sheet i new other j a b false d e q (eqb-true a 0 k) (sym z ∙ slices-same refl f g))
+    (λ k. names-first old sheet i new other j a b false d e q (eqb-false a 0 k) (sym z ∙ slices-same refl f g) refl)
+
+-- the first names are the same
+pub names-like : {n : Bool} {x y : List ℕ} {u v : List ℕ} → n ≡ not (pointwise eqb x y) → n ≡ false → x ≡ u → y ≡ v → true ≡ same u v
+names-like {n} {x} {y} h t f g = sym (yet-so (pointwise eqb x y) (sym h ∙ t)) ∙ slices-same refl f g
+
+pub unlike : {n : Bool} (x y : List ℕ) → n ≡ not (pointwise eqb x y) → n ≡ true → pointwise eqb x y ≡ false
+unlike x y h t = not_so (pointwise eqb x y) (sym h ∙ t)
+
+pub alike : {n : Bool} (x y : List ℕ) → n ≡ not (pointwise eqb x y) → n ≡ false → pointwise eqb x y ≡ true
+alike x y h t = yet-so (pointwise eqb x y) (sym h ∙ t)

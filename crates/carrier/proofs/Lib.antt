@@ -1,4 +1,5 @@
 pub mod Laws
+mod Answered
 pub mod Words
 pub mod Loop
 pub mod Sheets

@@ -17,25 +17,20 @@ use Rattle.machine.specs.Bytes.{count, words_of}
 use Rattle.scanner.proofs.WordLaws.{part_at}
 use Rattle.symbols.proofs.Parts.{part-whole}
 use Rattle.symbols.specs.Search.{part}
-use Rattle.carrier.specs.Going.{Is, Announced, expects_by, words_meet, Follows, Meets, Tells}
+use Rattle.carrier.specs.Going.{Announced, expects_by, words_meet, Tells}
 
 -- the rules' words are ws and vs, n each; the first o of them are the same, and the state is that of the scan there
-pub record Going (h : ℕ → ℕ → Bool) (ws vs : List ℕ) (n o kind left : ℕ) (flags : List ℕ) : Type 0 where
+pub record Going (h : ℕ → ℕ → Bool) (ws vs : List ℕ) (n o : ℕ) (e : Expects) (flags : List ℕ) : Type 0 where
   pub tables : List ℕ
-  pub expects : Expects
-  pub is : Is kind left expects
   pub long : length flags ≡ 4096
   pub flagged : Announced flags tables
   pub low : o ≤ n
   pub lengths : (length ws ≡ n) × (length vs ≡ n)
-  pub rest : same_scan h tables o expects (drop o ws) (drop o vs) ≡ same_scan h [] 0 instruction ws vs
+  pub rest : same_scan h tables o e (drop o ws) (drop o vs) ≡ same_scan h [] 0 instruction ws vs
 
-pub going-first : (h : ℕ → ℕ → Bool) (ws vs : List ℕ) (n : ℕ) → length ws ≡ n → length vs ≡ n → Going h ws vs n 0 0 0 (replicate 4096 0)
-unfolding Is
+pub going-first : (h : ℕ → ℕ → Bool) (ws vs : List ℕ) (n : ℕ) → length ws ≡ n → length vs ≡ n → Going h ws vs n 0 instruction (replicate 4096 0)
 going-first h ws vs n e f = record {
   tables = [];
-  expects = instruction;
-  is = refl;
   long = length-zeros;
   flagged = record { flag = λ o k. zeros-at 4096 o };
   low = omega arith;
@@ -47,16 +42,14 @@ going-first h ws vs n e f = record {
     length-zeros = length-replicate {A = ℕ} 4096 0
 
 -- one word more
-module _ {h : ℕ → ℕ → Bool} {ws vs : List ℕ} {n o kind left : ℕ} {flags : List ℕ} (g : Going h ws vs n o kind left flags) (l : o < n) (w v : ℕ) (dw : w ≡ get_or ws o 0) (dv : v ≡ get_or vs o 0) where
-  here-step : same_scan h g.tables o g.expects (drop o ws) (drop o vs)
-      ≡ (if words_meet (h w v) g.expects w v then same_scan h (tables_after g.tables o g.expects w) (suc o) (expects_after g.tables o g.expects w) (drop (suc o) ws) (drop (suc o) vs) else false)
+module _ {h : ℕ → ℕ → Bool} {ws vs : List ℕ} {n o : ℕ} {e : Expects} {flags : List ℕ} (g : Going h ws vs n o e flags) (l : o < n) (w v : ℕ) (dw : w ≡ get_or ws o 0) (dv : v ≡ get_or vs o 0) where
+  here-step : same_scan h g.tables o e (drop o ws) (drop o vs)
+      ≡ (if words_meet (h w v) e w v then same_scan h (tables_after g.tables o e w) (suc o) (expects_after g.tables o e w) (drop (suc o) ws) (drop (suc o) vs) else false)
   unfolding same_scan words_meet
   here-step = rw (drop-cons ws o 0 (omega (arith, g.lengths.0, l)), drop-cons vs o 0 (omega (arith, g.lengths.1, l)), ← dw, ← dv) refl
 
-  pub going-not : (r : Bool) → Meets (h w v) kind left w v r → r ≡ false → false ≡ same_scan h [] 0 instruction ws vs
-  going-not r m f =
-      let z : words_meet (h w v) g.expects w v ≡ false = sym (m.as_is g.expects g.is) ∙ f in
-      sym (here-step ∙ rw z refl) ∙ g.rest
+  pub going-not : (r : Bool) → r ≡ words_meet (h w v) e w v → r ≡ false → false ≡ same_scan h [] 0 instruction ws vs
+  going-not r m f = sym (here-step ∙ rw (sym m ∙ f) refl) ∙ g.rest
 
   -- a choice table stands here
   flag_is : (t : ℕ) → t ≡ get_or flags o 0 → n ≤ 4096 → (b : Bool) → b ≡ eqb t 1 → b ≡ member o g.tables
@@ -74,27 +67,24 @@ module _ {h : ℕ → ℕ → Bool} {ws vs : List ℕ} {n o kind left : ℕ} {fl
   expects-is ts (operand i) = refl
   expects-is ts (label k) = refl
 
-  pub going_next : (r : Bool) (t : ℕ) (b : Bool) (kind' left' : ℕ) (flags' : List ℕ) → Meets (h w v) kind left w v r → r ≡ true → n ≤ 4096 → t ≡ get_or flags o 0 → b ≡ eqb t 1
-      → Tells flags o kind left w flags' → Follows b kind left w kind' left' → Going h ws vs n (o + 1) kind' left' flags'
-  going_next r t b kind' left' flags' m f s d e told fol =
-      let z : words_meet (h w v) g.expects w v ≡ true = sym (m.as_is g.expects g.is) ∙ f in
-      let y : b ≡ member o g.tables = flag_is t d s b e in
-      let x : expects_by b g.expects w ≡ expects_after g.tables o g.expects w = ap (λ (q : Bool). expects_by q g.expects w) y ∙ expects-is g.tables g.expects in
-      let k : Is kind' left' (expects_after g.tables o g.expects w) = rw x at (fol.to g.expects g.is) in
+  pub going_next : (r : Bool) (t : ℕ) (b : Bool) (e' : Expects) (flags' : List ℕ) → r ≡ words_meet (h w v) e w v → r ≡ true → n ≤ 4096 → t ≡ get_or flags o 0 → b ≡ eqb t 1
+      → Tells flags o e w flags' → e' ≡ expects_by b e w → Going h ws vs n (o + 1) e' flags'
+  going_next r t b e' flags' m f s d k told fol =
+      let z : words_meet (h w v) e w v ≡ true = sym m ∙ f in
+      let y : b ≡ member o g.tables = flag_is t d s b k in
+      let x : e' ≡ expects_after g.tables o e w = fol ∙ ap (λ (q : Bool). expects_by q e w) y ∙ expects-is g.tables e in
       record {
-        tables = tables_after g.tables o g.expects w;
-        expects = expects_after g.tables o g.expects w;
-        is = k;
+        tables = tables_after g.tables o e w;
         long = told.long ∙ g.long;
-        flagged = told.told g.tables g.expects g.is g.long g.flagged;
+        flagged = told.told g.tables g.long g.flagged;
         low = omega arith;
         lengths = g.lengths;
-        rest = rw (add-one o) (sym (here-step ∙ rw z refl) ∙ g.rest);
+        rest = rw (add-one o, x) (sym (here-step ∙ rw z refl) ∙ g.rest);
       }
 
-pub going_end : {h : ℕ → ℕ → Bool} {ws vs : List ℕ} {n o kind left : ℕ} {flags : List ℕ} → Going h ws vs n o kind left flags → n ≤ o → true ≡ same_scan h [] 0 instruction ws vs
+pub going_end : {h : ℕ → ℕ → Bool} {ws vs : List ℕ} {n o : ℕ} {e : Expects} {flags : List ℕ} → Going h ws vs n o e flags → n ≤ o → true ≡ same_scan h [] 0 instruction ws vs
 unfolding same_scan
-going_end {h} {ws} {vs} {n} {o} g l =
+going_end {h} {ws} {vs} {n} {o} {e} g l =
     let a : length ws ≤ o = omega (arith, g.lengths.0, l) in
     let b : length vs ≤ o = omega (arith, g.lengths.1, l) in
     rw (drop_of_length-le ws a, drop_of_length-le vs b) at g.rest

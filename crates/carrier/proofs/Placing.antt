@@ -54,6 +54,14 @@ find-lies old sheet i new other (suc n) k h = go (same_name (name_held old sheet
 pub named-low : (old sheet : List ℕ) (i : ℕ) (new other : List ℕ) (n j : ℕ) → j ≡ find_held old sheet i new other n 0 → (j ≡ 128 → ⊥) → j < n
 named-low old sheet i new other n j e h = let x = find-lies old sheet i new other n 0 (λ z. h (e ∙ z)) in omega (arith, x, e)
 
+-- a rule begins at a location
+pub place-from : {b other : List ℕ} {j q : ℕ} → Laid other b → j < count_held other → q ≡ get_or other (6 * j) 0 → 0 < q
+unfolding number_held
+place-from {b} {other} {j} {q} y k e =
+    let z : 6 * j + 0 ≡ 6 * j = omega arith in
+    let f : q ≡ get_or other (6 * j + 0) 0 = rw z e in
+    omega (arith, f, y.from j k)
+
 -- the place is a location of some table
 pub place-small : (a b sheet other : List ℕ) (l i j p q : ℕ) → Laid sheet a → Laid other b → Lies sheet l i → j < count_held other → q ≡ get_or other (6 * j) 0 → q + (l - p) < 65536
 unfolding number_held

@@ -8,8 +8,7 @@ use native.Mathlib.Decide.{dec_lt}
 use native.Mathlib.Omega.{arith}
 use lib.ListN.{length, get_or, take, set, length-set}
 use lib.Seq.{get_or-set_same, get_or-set_other}
-use Rattle.base.specs.Bools.{never}
-use Rattle.std.specs.Prelude.{if◌then◌else◌}
+use Rattle.std.specs.Prelude.{Some, None, if◌then◌else◌}
 use Rattle.carry.proofs.Lists.{some_inj, none-some}
 use Rattle.carry.specs.Carry.{Source, Place, place_of, number_of, name_of, same_words, in_rule, carried_at, carry_place, beside, carry_places, carried, put_at}
 use Rattle.machine.specs.Walk.{moved, with_returns}
@@ -123,18 +122,18 @@ module _ (a b old sheet new other : List ℕ) (walk : Walk) where
         go (some y) d = let w : x ≡ y = e ∙ by_rows l ∙ ap (or_no 0) d in absurd (omega (arith, above p q l y d, w, z))
 
   -- the location becomes no place
-  pub location-gone : (x : ℕ) → x ≡ To walk.at.location → x ≡ 0 → CarriesWalk a b old sheet new other walk (record { ok = false; walk = walk })
+  pub location-gone : (x : ℕ) → x ≡ To walk.at.location → x ≡ 0 → CarriesWalk a b old sheet new other walk None
   unfolding carried_by put_at
-  location-gone x e z = record { location = λ f. never f; is = λ s t. rw (gone s t walk.at.location x e z) refl }
+  location-gone x e z = record { location = tt; is = λ s t. rw (gone s t walk.at.location x e z) refl }
 
   -- a return location becomes none
   pub return-gone : {returns : List ℕ} {i : ℕ} (held x y l : ℕ) → length walk.returns ≡ 64 → held ≡ min walk.at.depth 64 → x ≡ To walk.at.location → (x ≡ 0 → ⊥) → Moving To held walk.returns returns i → i < held
-      → y ≡ get_or returns i 0 → l ≡ To y → l ≡ 0 → CarriesWalk a b old sheet new other walk (record { ok = false; walk = walk })
+      → y ≡ get_or returns i 0 → l ≡ To y → l ≡ 0 → CarriesWalk a b old sheet new other walk None
   unfolding carried_by put_at view.walk_of view.walk_in
-  return-gone {returns} {i} held x y l n h e nz m k d f z = record { location = λ g. never g; is = it }
+  return-gone {returns} {i} held x y l n h e nz m k d f z = record { location = tt; is = it }
     where
       it : {p q : Source} → Stands old sheet a p → Stands new other b q
-          → carried_by (record { ok = false; walk = walk }) ≡ put_at (view.walk_of walk) (carry_place p q walk.at.location) (carry_places p q (view.walk_of walk).returns)
+          → carried_by None ≡ put_at (view.walk_of walk) (carry_place p q walk.at.location) (carry_places p q (view.walk_of walk).returns)
       it {p} {q} s t =
           let w : l ≡ To (get_or walk.returns i 0) = f ∙ ap To (d ∙ m.left i (omega arith)) in
           let u : carry_places p q (reverse (take (min walk.at.depth 64) walk.returns)) ≡ none = no-places p q (min walk.at.depth 64) walk.returns i (omega (arith, n)) (omega (arith, k, h)) (gone s t (get_or walk.returns i 0) l w z) in
@@ -143,24 +142,21 @@ module _ (a b old sheet new other : List ℕ) (walk : Walk) where
   -- each becomes one
   pub all-carried : {returns : List ℕ} {i : ℕ} (held x : ℕ) → length walk.returns ≡ 64 → held ≡ min walk.at.depth 64 → x ≡ To walk.at.location → x < 65536 → (x ≡ 0 → ⊥)
       → Moving To held walk.returns returns i → held ≤ i
-      → CarriesWalk a b old sheet new other walk (record {
-        ok = true;
-        walk = record {
-          phase = walk.phase;
-          at = record {
-            location = x;
-            depth = walk.at.depth;
-            result = walk.at.result;
-            parameter = walk.at.parameter;
-            read = walk.at.read;
-            used = walk.at.used;
-            allowance = walk.at.allowance;
-          };
-          returns = returns;
+      → CarriesWalk a b old sheet new other walk (Some (record {
+        phase = walk.phase;
+        at = record {
+          location = x;
+          depth = walk.at.depth;
+          result = walk.at.result;
+          parameter = walk.at.parameter;
+          read = walk.at.read;
+          used = walk.at.used;
+          allowance = walk.at.allowance;
         };
-      })
+        returns = returns;
+      }))
   unfolding carried_by put_at view.walk_of view.walk_in moved with_returns
-  all-carried {returns} {i} held x n h e fits nz m k = record { location = λ _. fits; is = it }
+  all-carried {returns} {i} held x n h e fits nz m k = record { location = fits; is = it }
     where
       it : {p q : Source} → Stands old sheet a p → Stands new other b q
           → carried (record {

@@ -3,3 +3,4 @@ pub mod Going
 pub mod Sheets
 pub mod Sections
 pub mod Walks
+pub mod Places

@@ -2,13 +2,13 @@
 use mathlib.Core.Bool.{Bool, true, false}
 use mathlib.Core.List.{List}
 use mathlib.Core.Option.{none, some}
-use mathlib.Core.Path.{◌≡◌, refl, sym, ◌∙◌}
+use mathlib.Core.Path.{◌≡◌, refl, sym, ◌∙◌, subst}
 use Prim.Native.Nat.{ℕ}
 use native.Mathlib.Omega.{arith}
 use borrow.Author.Tests.{eq-eqb, ne_eqb}
 use Rattle.carrier.specs.Sections.{Sections}
 use Rattle.carrier.specs.Walks.{carried_by, CarriesWalk}
-use Rattle.carrier.specs.declared.Placed.{Placed}
+use Rattle.std.specs.Prelude.{Option, Some, None}
 use Rattle.carry.specs.Carry.{same_all, carry, source_of}
 use Rattle.carry.specs.Texts.{Answer, answer_of, between, carry_texts, told, outcome, carry_bytes}
 use Rattle.machine.specs.Form.{walk_of, walk_bytes}
@@ -30,14 +30,18 @@ module _ {old a sheet new b other : List ℕ} (x : Ready old a sheet) (y : Ready
   unfolding outcome_of told answer_of carry
   sections-differ r s f = record { location = λ z. absurd (omega (arith, z)); is = λ bytes. rw (sections-are r s ∙ f) refl }
 
-  module _ (p : Placed) (c : CarriesWalk a b old sheet new other walk p) (r : Bool) (s : Sections old new r) (t : r ≡ true) where
-    pub walk-goes : p.ok ≡ true → Tells (record { number = 0; text = 0; start = 0; len = 0; walk = p.walk }) (answer_of (carry (source_of old) (source_of new) (view.walk_of walk)))
+  module _ {o : Option Walk} (c : CarriesWalk a b old sheet new other walk o) (r : Bool) (s : Sections old new r) (t : r ≡ true) where
+    pub walk-goes : (w : Walk) → o ≡ Some w → Tells (record { number = 0; text = 0; start = 0; len = 0; walk = w }) (answer_of (carry (source_of old) (source_of new) (view.walk_of walk)))
     unfolding outcome_of told answer_of carry carried_by view.walk_of view.walk_in
-    walk-goes e = record { location = λ _. c.location e; is = λ bytes. rw (sections-are r s ∙ t, ← (c.is x.stands y.stands), e) refl }
+    walk-goes w e =
+        let d : CarriesWalk a b old sheet new other walk (Some w) = subst (CarriesWalk a b old sheet new other walk) e c in
+        record { location = λ _. d.location; is = λ bytes. rw (sections-are r s ∙ t, ← (d.is x.stands y.stands)) refl }
 
-    pub walk-stays : p.ok ≡ false → Tells (record { number = 52; text = 0; start = 0; len = 0; walk = p.walk }) (answer_of (carry (source_of old) (source_of new) (view.walk_of walk)))
+    pub walk-stays : o ≡ None → Tells (record { number = 52; text = 0; start = 0; len = 0; walk = walk }) (answer_of (carry (source_of old) (source_of new) (view.walk_of walk)))
     unfolding outcome_of told answer_of carry carried_by view.walk_of view.walk_in
-    walk-stays e = record { location = λ z. absurd (omega (arith, z)); is = λ bytes. rw (sections-are r s ∙ t, ← (c.is x.stands y.stands), e) refl }
+    walk-stays e =
+        let d : CarriesWalk a b old sheet new other walk None = subst (CarriesWalk a b old sheet new other walk) e c in
+        record { location = λ z. absurd (omega (arith, z)); is = λ bytes. rw (sections-are r s ∙ t, ← (d.is x.stands y.stands)) refl }
 
 -- Between any texts
 

@@ -8,6 +8,7 @@ ghost use Rattle.sources.specs.Prepared.{Reads};
 ghost use Rattle.walker.specs.View as view;
 ghost use Rattle.carrying.specs.Told.{Ready, Accepts, IsRead, Tells, leaves};
 
+use carrier::Program;
 use sources::Prepared;
 use walker::Walk;
 
@@ -34,20 +35,12 @@ pub struct Carried {
     pub walk: Walk,
 }
 
-// The walk between two texts that are accepted, their tables and their rules' rows: 51, 52 or 0 and the carried walk.
-fn carry_prepared(
-    a: &[u8],
-    b: &[u8],
-    old: &[u8],
-    sheet: &[u16],
-    new: &[u8],
-    other: &[u16],
-    walk: Walk,
-) -> Carried
-    requires { Ready old.now a.now sheet.now × Ready new.now b.now other.now }
-    ensures { Tells result (answer_of (carrying (source_of old.now) (source_of new.now) (view.walk_of walk))) }
+// The walk between two texts that are accepted: 51, 52 or 0 and the carried walk.
+fn carry_prepared(old: Program, new: Program, walk: Walk) -> Carried
+    requires { Ready old.text.now old.table.now old.sheet.now × Ready new.text.now new.table.now new.sheet.now }
+    ensures { Tells result (answer_of (carrying (source_of old.entry.text.now) (source_of new.entry.text.now) (view.walk_of walk))) }
 {
-    if !carrier::same_sections(old, new) {
+    if !carrier::same_sections(old.text, new.text) {
         return Carried {
             number: carrier::SECTIONS_DIFFER,
             text: NO_TEXT,
@@ -56,10 +49,17 @@ fn carry_prepared(
             walk,
         };
     }
-    let p = carrier::carry_walk(a, b, old, sheet, new, other, walk);
-    let carried = p.walk;
+    let Some(carried) = carrier::carry_walk(old, new, walk) else {
+        return Carried {
+            number: carrier::RULE_DIFFERS,
+            text: NO_TEXT,
+            start: 0,
+            len: 0,
+            walk,
+        };
+    };
     Carried {
-        number: if p.ok { 0 } else { carrier::RULE_DIFFERS },
+        number: 0,
         text: NO_TEXT,
         start: 0,
         len: 0,
@@ -90,9 +90,18 @@ fn carry_read(
     ensures { Tells result (carry_texts old.now new.now (view.walk_of walk)) }
 {
     let mut b = [0u8; TABLE];
-    let other = &sheets[carrier::SHEET..];
-    sources::write_table(cells, sorts, other, &mut b);
-    carry_prepared(a, &b, old, &sheets[..carrier::SHEET], new, other, walk)
+    sources::write_table(cells, sorts, &sheets[carrier::SHEET..], &mut b);
+    let before = Program {
+        table: a,
+        text: old,
+        sheet: &sheets[..carrier::SHEET],
+    };
+    let after = Program {
+        table: &b,
+        text: new,
+        sheet: &sheets[carrier::SHEET..],
+    };
+    carry_prepared(before, after, walk)
 }
 
 // The old text is accepted, its rows are the first sheet: the new text's number, 51, 52, or 0.
@@ -146,14 +155,12 @@ pub extern "C" fn sst_carry(
 ) -> u16
     ensures { leaves result text.new start.new len.new walk.new ≡ carry_bytes old.now new.now walk.old }
 {
-    let h = firmware::read_walk(walk);
-    if !h.ok {
+    let Some(w) = firmware::read_walk(walk) else {
         *text = NO_TEXT;
         *start = 0;
         *len = 0;
         return base::REFUSED;
-    }
-    let w = h.walk;
+    };
     let r = carry(old, new, w);
     *text = r.text;
     *start = r.start as u64;

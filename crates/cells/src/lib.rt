@@ -65,5 +65,5 @@ pub const CELLS: usize = 4224;
 pub fn sort_at(sorts: &[u8], r: usize) -> u8
     ensures { result ≡ get_or sorts.now r 0 }
 {
-    if r < sorts.len() { sorts[r] } else { 0 }
+    sorts.get(r).copied().unwrap_or(PROCEDURE_RULE)
 }

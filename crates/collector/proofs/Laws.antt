@@ -1,23 +1,22 @@
 -- Laws for the proofs of the code: what is read, part by part.
-use mathlib.Core.Bool.{Bool, true, false, not}
+use mathlib.Core.Bool.{Bool, true, false}
 use mathlib.Core.List.{List, [], ◌∷◌}
 use mathlib.Core.Option.{Option, none, some}
 use mathlib.Core.Path.{◌≡◌, refl, sym, ap, ◌∙◌}
 use Prim.Native.Nat.{ℕ, suc, ◌+◌, ◌≤◌, ◌<◌, max}
 use native.Mathlib.Omega.{arith}
-use lib.Dec.{eqb, leb}
+use lib.Dec.{leb}
 use lib.ListN.{length, take, drop}
 use borrow.Author.Tests.{ne_eqb, leb-true, leb-false}
-use Rattle.std.specs.Prelude.{if◌then◌else◌}
+use Rattle.std.specs.Prelude.{Option as Maybe, Some, None, is_some}
 use Rattle.base.specs.Common.{given}
 use Rattle.collector.proofs.Rows.{appends-then}
 use Rattle.collector.proofs.Words.{next-kind, not-kind, option-none, option-some, took-at, took-kind, took-past, took-rest, took-word}
-use Rattle.collector.specs.Collecting.{AHead, ARule, AnEntry, AnOperation, Appends, Counts, Goes, HeadRead, IsNone, IsWord, LineIn, a_line, LinesIn, last_line, more_lines, Puts, Reads, Room, Skips, SomeEntries, SomeOperations, SomeRules, decl_in, in_text, option_in}
+use Rattle.collector.specs.Collecting.{AHead, ARule, AnEntry, AnOperation, Appends, Counts, Goes, HeadRead, LineIn, a_line, LinesIn, last_line, more_lines, Puts, Reads, Room, Skips, SomeEntries, SomeOperations, SomeRules, decl_in, in_text, option_in, part_of, written}
 use Rattle.collector.specs.declared.Entered.{Entered}
 use Rattle.collector.specs.declared.Entries.{Entries}
 use Rattle.collector.specs.declared.Head.{Head}
 use Rattle.collector.specs.declared.Operated.{Operated}
-use Rattle.collector.specs.declared.Optional.{Optional}
 use Rattle.collector.specs.declared.Part.{Part}
 use Rattle.collector.specs.declared.Row.{Row}
 use Rattle.collector.specs.declared.Spot.{Spot}
@@ -29,7 +28,7 @@ use Rattle.reader.specs.Answers.{Here}
 use Rattle.reader.specs.Counting.{Adds, Kinds, NumberOf, count_of, one_more}
 use Rattle.reader.specs.declared.Seen.{Seen}
 use Rattle.scanner.specs.declared.WordAt.{WordAt}
-use Rattle.symbols.specs.Rows.{option_of, second_kind, word_of}
+use Rattle.symbols.specs.Rows.{second_kind, word_of}
 use Rattle.syntax.specs.Reading.{peek}
 use Rattle.syntax.specs.Sections.{first_of, instructions, next_of, of_kind}
 use Rattle.syntax.specs.Written.{Entry, Operation, Rule}
@@ -37,76 +36,72 @@ use Rattle.words.specs.Words.{Word, value, words_at}
 
 -- Words that may be there
 
-abbrev Is : List ℕ → ℕ → Optional → List Word → Option Word → Type 0
-Is text kind r ws' o = (o ≡ option_in text kind r.part) × (ws' ≡ words_at text r.at)
+abbrev Is : List ℕ → ℕ → Maybe Part × ℕ → List Word → Option Word → Type 0
+Is text kind r ws' o = (given o ≡ is_some r.0) × (o ≡ option_in text kind r.0) × (ws' ≡ words_at text r.1)
 
-reads-by : {F : List Word → Option Word → Type 0} {text : List ℕ} {at kind : ℕ} {r : Optional} → at ≤ r.at → r.at ≤ length text → in_text text r.part
+reads-by : {F : List Word → Option Word → Type 0} {text : List ℕ} {at kind : ℕ} {r : Maybe Part × ℕ} → at ≤ r.1 → r.1 ≤ length text → in_text text (written r.0)
     → ((ws' : List Word) (o : Option Word) → F ws' o → Is text kind r ws' o) → Reads F text at kind r
-reads-by l h i f = record { low = l; high = h; inside = i; word = λ ws' o t. (f ws' o t).0; rest = λ ws' o t. (f ws' o t).1 }
+reads-by l h i f = record { low = l; high = h; inside = i; there = λ ws' o t. (f ws' o t).0; word = λ ws' o t. (f ws' o t).1; rest = λ ws' o t. (f ws' o t).2 }
 
-is_word : {text : List ℕ} {at k : ℕ} {w : WordAt} {v : Word} {ws' : List Word} {r : Optional} → 2 ≤ k → Here text at w → IsWord w r → Took k (words_at text at) v ws'
-    → Is text k r ws' (some v)
-is_word {text} {r = r} h n e t = (option-some r.part n h t e.start e.len, took-rest n h t ∙ ap (words_at text) (sym e.next))
+is_word : {text : List ℕ} {at k : ℕ} {w : WordAt} {v : Word} {ws' : List Word} → 2 ≤ k → Here text at w → Took k (words_at text at) v ws'
+    → Is text k (Some (part_of w), w.next) ws' (some v)
+is_word {text} {w = w} h n t = (refl, option-some (Some (part_of w)) n h t refl refl, took-rest n h t)
 
-is_none : (text : List ℕ) {at : ℕ} (k : ℕ) {r : Optional} {ws' : List Word} → IsNone at r → ws' ≡ words_at text at → Is text k r ws' none
-is_none text k {r} e f = (option-none text k r.part e.len, f ∙ ap (words_at text) (sym e.next))
+is_none : (text : List ℕ) (at k : ℕ) {ws' : List Word} → ws' ≡ words_at text at → Is text k (None, at) ws' none
+is_none text at k f = (refl, option-none text k None refl, f)
 
-pub spelling-there : {text : List ℕ} {at : ℕ} (strings : Bool) {w : WordAt} {r : Optional} → strings ≡ true → Here text at w → w.kind ≡ 259 → IsWord w r
-    → Reads (SpellingIn strings (words_at text at)) text at 259 r
-spelling-there {text} {at} strings {w} {r} s n k e =
-    reads-by (omega (arith, e.next, n.onto)) (omega (arith, e.next, n.high)) (omega (arith, e.start, e.len, n.inside)) go where
-      go : (ws' : List Word) (o : Option Word) → SpellingIn strings (words_at text at) ws' o → Is text 259 r ws' o
-      go ws' none (no_strings f g) = let z : ◌≡◌ {A = ℕ} 0 1 = cc in absurd (omega arith)
-      go ws' none (no_spelling f m g) = absurd (not-kind 259 n m k)
-      go ws' (some v) (one_spelling f t) = is_word (omega arith) n e t
+pub spelling-there : {text : List ℕ} {at : ℕ} (strings : Bool) {w : WordAt} → strings ≡ true → Here text at w → w.kind ≡ 259
+    → Reads (SpellingIn strings (words_at text at)) text at 259 (Some (part_of w), w.next)
+spelling-there {text} {at} strings {w} s n k = reads-by n.onto n.high n.inside go where
+  go : (ws' : List Word) (o : Option Word) → SpellingIn strings (words_at text at) ws' o → Is text 259 (Some (part_of w), w.next) ws' o
+  go ws' none (no_strings f g) = let z : ◌≡◌ {A = ℕ} 0 1 = cc in absurd (omega arith)
+  go ws' none (no_spelling f m g) = absurd (not-kind 259 n m k)
+  go ws' (some v) (one_spelling f t) = is_word (omega arith) n t
 
-pub spelling-none : {text : List ℕ} {at : ℕ} (strings : Bool) {w : WordAt} {r : Optional} → at ≤ length text → Here text at w → (w.kind ≡ 259 → ⊥) → IsNone at r
-    → Reads (SpellingIn strings (words_at text at)) text at 259 r
-spelling-none {text} {at} strings {w} {r} l n k e =
-    reads-by (omega (arith, e.next)) (omega (arith, e.next)) (omega (arith, e.start, e.len)) go where
-      go : (ws' : List Word) (o : Option Word) → SpellingIn strings (words_at text at) ws' o → Is text 259 r ws' o
-      go ws' none (no_strings f g) = is_none text 259 e g
-      go ws' none (no_spelling f m g) = is_none text 259 e g
-      go ws' (some v) (one_spelling f t) = absurd (k (took-kind n t))
+pub spelling-none : {text : List ℕ} {at : ℕ} (strings : Bool) {w : WordAt} → at ≤ length text → Here text at w → (w.kind ≡ 259 → ⊥)
+    → Reads (SpellingIn strings (words_at text at)) text at 259 (None, at)
+spelling-none {text} {at} strings {w} l n k = reads-by (omega arith) l (omega arith) go where
+  go : (ws' : List Word) (o : Option Word) → SpellingIn strings (words_at text at) ws' o → Is text 259 (None, at) ws' o
+  go ws' none (no_strings f g) = is_none text at 259 g
+  go ws' none (no_spelling f m g) = is_none text at 259 g
+  go ws' (some v) (one_spelling f t) = absurd (k (took-kind n t))
 
-pub spelling-never : {text : List ℕ} {at : ℕ} (strings : Bool) {r : Optional} → at ≤ length text → strings ≡ false → IsNone at r
-    → Reads (SpellingIn strings (words_at text at)) text at 259 r
-spelling-never {text} {at} strings {r} l s e = reads-by (omega (arith, e.next)) (omega (arith, e.next)) (omega (arith, e.start, e.len)) go where
-  go : (ws' : List Word) (o : Option Word) → SpellingIn strings (words_at text at) ws' o → Is text 259 r ws' o
-  go ws' none (no_strings f g) = is_none text 259 e g
+pub spelling-never : {text : List ℕ} {at : ℕ} (strings : Bool) → at ≤ length text → strings ≡ false
+    → Reads (SpellingIn strings (words_at text at)) text at 259 (None, at)
+spelling-never {text} {at} strings l s = reads-by (omega arith) l (omega arith) go where
+  go : (ws' : List Word) (o : Option Word) → SpellingIn strings (words_at text at) ws' o → Is text 259 (None, at) ws' o
+  go ws' none (no_strings f g) = is_none text at 259 g
   go ws' none (no_spelling f m g) = let z : ◌≡◌ {A = ℕ} 0 1 = cc in absurd (omega arith)
   go ws' (some v) (one_spelling f t) = let z : ◌≡◌ {A = ℕ} 0 1 = cc in absurd (omega arith)
 
-pub gives-there : {text : List ℕ} {at : ℕ} {w t : WordAt} {r : Optional} → Here text at w → w.kind ≡ 256 → Here text w.next t → IsWord t r
-    → Reads (GivesIn (words_at text at)) text at 257 r
-gives-there {text} {at} {w} {t} {r} n k m e =
-    reads-by (omega (arith, e.next, n.onto, m.onto)) (omega (arith, e.next, m.high)) (omega (arith, e.start, e.len, m.inside)) go where
-      go : (ws' : List Word) (o : Option Word) → GivesIn (words_at text at) ws' o → Is text 257 r ws' o
-      go ws' none (gives_none x g) = absurd (not-kind 256 n x k)
-      go ws' (some v) (gives_some a b) = is_word (omega arith) m e (took-at (took-rest n (omega arith) a) b)
+pub gives-there : {text : List ℕ} {at : ℕ} {w t : WordAt} → Here text at w → w.kind ≡ 256 → Here text w.next t
+    → Reads (GivesIn (words_at text at)) text at 257 (Some (part_of t), t.next)
+gives-there {text} {at} {w} {t} n k m = reads-by (omega (arith, n.onto, m.onto)) m.high m.inside go where
+  go : (ws' : List Word) (o : Option Word) → GivesIn (words_at text at) ws' o → Is text 257 (Some (part_of t), t.next) ws' o
+  go ws' none (gives_none x g) = absurd (not-kind 256 n x k)
+  go ws' (some v) (gives_some a b) = is_word (omega arith) m (took-at (took-rest n (omega arith) a) b)
 
-pub gives-not : {text : List ℕ} {at : ℕ} {w : WordAt} {r : Optional} → at ≤ length text → Here text at w → (w.kind ≡ 256 → ⊥) → IsNone at r
-    → Reads (GivesIn (words_at text at)) text at 257 r
-gives-not {text} {at} {w} {r} l n k e = reads-by (omega (arith, e.next)) (omega (arith, e.next)) (omega (arith, e.start, e.len)) go where
-  go : (ws' : List Word) (o : Option Word) → GivesIn (words_at text at) ws' o → Is text 257 r ws' o
-  go ws' none (gives_none x g) = is_none text 257 e g
+pub gives-not : {text : List ℕ} {at : ℕ} {w : WordAt} → at ≤ length text → Here text at w → (w.kind ≡ 256 → ⊥)
+    → Reads (GivesIn (words_at text at)) text at 257 (None, at)
+gives-not {text} {at} {w} l n k = reads-by (omega arith) l (omega arith) go where
+  go : (ws' : List Word) (o : Option Word) → GivesIn (words_at text at) ws' o → Is text 257 (None, at) ws' o
+  go ws' none (gives_none x g) = is_none text at 257 g
   go ws' (some v) (gives_some a b) = absurd (k (took-kind n a))
 
 pub takes-there : {text : List ℕ} {at : ℕ} {w t c : WordAt} → Here text at w → w.kind ≡ 40 → Here text w.next t → Here text t.next c
-    → Reads (TakesIn (words_at text at)) text at 257 (record { part = record { start = t.start; len = t.len }; at = c.next })
-takes-there {text} {at} {w} {t} {c} n k m q =
-    reads-by (omega (arith, n.onto, m.onto, q.onto)) q.high m.inside go where
-      go : (ws' : List Word) (o : Option Word) → TakesIn (words_at text at) ws' o → Is text 257 (record { part = record { start = t.start; len = t.len }; at = c.next }) ws' o
-      go ws' none (takes_none x g) = absurd (not-kind 40 n x k)
-      go ws' (some v) (takes_some a b d) =
-          let b' = took-at (took-rest n (omega arith) a) b in
-          (option-some (record { start = t.start; len = t.len }) m (omega arith) b' refl refl, took-rest q (omega arith) (took-at (took-rest m (omega arith) b') d))
+    → Reads (TakesIn (words_at text at)) text at 257 (Some (part_of t), c.next)
+takes-there {text} {at} {w} {t} {c} n k m q = reads-by (omega (arith, n.onto, m.onto, q.onto)) q.high m.inside go where
+  go : (ws' : List Word) (o : Option Word) → TakesIn (words_at text at) ws' o → Is text 257 (Some (part_of t), c.next) ws' o
+  go ws' none (takes_none x g) = absurd (not-kind 40 n x k)
+  go ws' (some v) (takes_some a b d) =
+      let b' = took-at (took-rest n (omega arith) a) b in
+      (refl, option-some (Some (part_of t)) m (omega arith) b' refl refl, took-rest q (omega arith) (took-at (took-rest m (omega arith) b') d))
 
-pub takes-not : {text : List ℕ} {at : ℕ} {w : WordAt} {r : Optional} → at ≤ length text → Here text at w → (w.kind ≡ 40 → ⊥) → IsNone at r
-    → Reads (TakesIn (words_at text at)) text at 257 r
-takes-not {text} {at} {w} {r} l n k e = reads-by (omega (arith, e.next)) (omega (arith, e.next)) (omega (arith, e.start, e.len)) go where
-  go : (ws' : List Word) (o : Option Word) → TakesIn (words_at text at) ws' o → Is text 257 r ws' o
-  go ws' none (takes_none x g) = is_none text 257 e g
+pub takes-not : {text : List ℕ} {at : ℕ} {w : WordAt} → at ≤ length text → Here text at w → (w.kind ≡ 40 → ⊥)
+    → Reads (TakesIn (words_at text at)) text at 257 (None, at)
+takes-not {text} {at} {w} l n k = reads-by (omega arith) l (omega arith) go where
+  go : (ws' : List Word) (o : Option Word) → TakesIn (words_at text at) ws' o → Is text 257 (None, at) ws' o
+  go ws' none (takes_none x g) = is_none text at 257 g
   go ws' (some v) (takes_some a b d) = absurd (k (took-kind n a))
 
 -- Values
@@ -169,11 +164,11 @@ appended text x p e r = rw e at (p.puts text r)
 
 -- Entries
 
-abbrev entry_row : ℕ → ℕ → WordAt → Part → Row
-entry_row class v w second = record { class = class; value = v; name = record { start = w.start; len = w.len }; second = second; third = record { start = 0; len = 0 } }
+abbrev entry_row : ℕ → ℕ → WordAt → Maybe Part → Row
+entry_row class v w second = record { class = class; value = v; name = part_of w; second = second; third = None }
 
-pub entry_read : {text rows rows' : List ℕ} {at count class v c : ℕ} {strings : Bool} {w : WordAt} {s : Optional} {n : Valued} → (class ≡ 6 → ⊥)
-    → Here text at w → Reads (SpellingIn strings (words_at text w.next)) text w.next 259 s → Counts text s.at v n → Puts rows rows' count c (entry_row class n.value w s.part)
+pub entry_read : {text rows rows' : List ℕ} {at count class v c : ℕ} {strings : Bool} {w : WordAt} {s : Maybe Part × ℕ} {n : Valued} → (class ≡ 6 → ⊥)
+    → Here text at w → Reads (SpellingIn strings (words_at text w.next)) text w.next 259 s → Counts text s.1 v n → Puts rows rows' count c (entry_row class n.value w s.0)
     → AnEntry text rows rows' at count class strings v (record { at = n.at; count = c; value = n.value })
 entry_read {text} {rows} {rows'} {at} {count} {class} {v} {c} {strings} {w} {s} {n} z h f g p = record {
   bounds = record { low = omega (arith, h.onto, f.low, g.low); high = g.high; more = p.more; small = p.small };
@@ -182,12 +177,12 @@ entry_read {text} {rows} {rows'} {at} {count} {class} {v} {c} {strings} {w} {s} 
   goes = going;
   appends = added;
 } where
-  count-here : {ws₁ ws₂ ws' : List Word} {v' : Word} {o : Option Word} {i : ℕ} → Took 257 (words_at text at) v' ws₁ → SpellingIn strings ws₁ ws₂ o → CountIn v ws₂ ws' i → CountIn v (words_at text s.at) ws' i
+  count-here : {ws₁ ws₂ ws' : List Word} {v' : Word} {o : Option Word} {i : ℕ} → Took 257 (words_at text at) v' ws₁ → SpellingIn strings ws₁ ws₂ o → CountIn v ws₂ ws' i → CountIn v (words_at text s.1) ws' i
   count-here {ws₁} {ws₂} t u q =
       let u' : SpellingIn strings (words_at text w.next) ws₂ _ = rw (took-rest h (omega arith) t) at u in
       rw (f.rest _ _ u') at q
 
-  spelt-here : {ws₁ ws₂ : List Word} {v' : Word} {o : Option Word} → Took 257 (words_at text at) v' ws₁ → SpellingIn strings ws₁ ws₂ o → o ≡ option_in text 259 s.part
+  spelt-here : {ws₁ ws₂ : List Word} {v' : Word} {o : Option Word} → Took 257 (words_at text at) v' ws₁ → SpellingIn strings ws₁ ws₂ o → o ≡ option_in text 259 s.0
   spelt-here {ws₁} {ws₂} {o = o} t u = f.word ws₂ o (rw (took-rest h (omega arith) t) at u)
 
   values : (ws' : List Word) (e : Entry) → EntryIn strings v (words_at text at) ws' e → e.value ≡ n.value
@@ -199,8 +194,8 @@ entry_read {text} {rows} {rows'} {at} {count} {class} {v} {c} {strings} {w} {s} 
   added : (ws' : List Word) (e : Entry) → EntryIn strings v (words_at text at) ws' e → Room rows count 1 → Appends text rows rows' count c (of_entry class e ∷ [])
   added ws' e (one_entry t u q) r =
       appended text (of_entry class e) p
-      (decl-is text (entry_row class n.value w s.part) (of_entry class e) refl (g.value ws' e.value (count-here t u q)) (took-word h t)
-      (spelt-here t u ∙ ap (λ (k : ℕ). option_in text k s.part) (sym (second-string class z))) (option-none text 257 (record { start = 0; len = 0 }) refl)) r
+      (decl-is text (entry_row class n.value w s.0) (of_entry class e) refl (g.value ws' e.value (count-here t u q)) (took-word h t)
+      (spelt-here t u ∙ ap (λ (k : ℕ). option_in text k s.0) (sym (second-string class z))) (option-none text 257 None refl)) r
 
 -- an entry, then the semicolon
 pub entries-last : {text rows rows' : List ℕ} {i n class v top t : ℕ} {strings : Bool} {e : Entered} {w : WordAt}
@@ -300,9 +295,9 @@ listed-read {text} {rows} {rows'} {at} {n} {class} {v} {strings} {c} {r} h u = r
 
 -- Operations
 
-pub head_read : {text : List ℕ} {at : ℕ} {w : WordAt} {p g : Optional} → Here text at w → Reads (TakesIn (words_at text w.next)) text w.next 257 p
-    → Reads (GivesIn (words_at text p.at)) text p.at 257 g
-    → AHead text at (record { name = record { start = w.start; len = w.len }; second = p.part; third = g.part; at = g.at })
+pub head_read : {text : List ℕ} {at : ℕ} {w : WordAt} {p g : Maybe Part × ℕ} → Here text at w → Reads (TakesIn (words_at text w.next)) text w.next 257 p
+    → Reads (GivesIn (words_at text p.1)) text p.1 257 g
+    → AHead text at (record { name = part_of w; second = p.0; third = g.0; at = g.1 })
 head_read {text} {at} {w} {p} {g} h f u = record {
   low = omega (arith, h.onto, f.low, u.low);
   high = u.high;
@@ -312,15 +307,17 @@ head_read {text} {at} {w} {p} {g} h f u = record {
   reads = reading;
 } where
   reading : {is : List ℕ} (ws' : List Word) (o : Operation) → OperationIn is (words_at text at) ws' o
-      → HeadRead text at ws' o (record { name = record { start = w.start; len = w.len }; second = p.part; third = g.part; at = g.at })
+      → HeadRead text at ws' o (record { name = part_of w; second = p.0; third = g.0; at = g.1 })
   reading ws' o (one_operation {ws₁} {ws₂} t a b i k) =
       let a' : TakesIn (words_at text w.next) ws₂ o.takes = rw (took-rest h (omega arith) t) at a in
-      let b' : GivesIn (words_at text p.at) ws' o.gives = rw (f.rest ws₂ o.takes a') at b in
+      let b' : GivesIn (words_at text p.1) ws' o.gives = rw (f.rest ws₂ o.takes a') at b in
       record {
         past = omega (arith, took-past h (omega arith) t, f.low, u.low);
         rest = u.rest ws' o.gives b';
         name = took-word h t;
+        taking = f.there ws₂ o.takes a';
         takes = f.word ws₂ o.takes a';
+        giving = u.there ws' o.gives b';
         gives = u.word ws' o.gives b';
       }
 
@@ -330,19 +327,11 @@ limit (one_operation t a b i k) = k
 numbered : {is : List ℕ} {ws ws' : List Word} {o : Operation} → OperationIn is ws ws' o → o.instruction ≡ kind_of o + of_kind (kind_of o) is
 numbered (one_operation t a b i k) = i
 
--- a word is there if its length is not 0
-given-part : (text : List ℕ) (k : ℕ) (p : Part) (o : Option Word) → o ≡ option_in text k p → given o ≡ not (eqb p.len 0)
-unfolding option_of
-given-part text k p o e = rw e (choose (eqb p.len 0)) where
-  choose : (b : Bool) → given (if b then none else some (word_of text k p.start p.len)) ≡ not b
-  choose true = refl
-  choose false = refl
-
 abbrev operation_row : ℕ → Head → Row
 operation_row v h = record { class = 6; value = v; name = h.name; second = h.second; third = h.third }
 
 pub operation-read : {text rows rows' : List ℕ} {at count c v : ℕ} {seen after : Seen} {h : Head} (takes gives : Bool)
-    → takes ≡ not (eqb h.second.len 0) → gives ≡ not (eqb h.third.len 0) → AHead text at h
+    → takes ≡ is_some h.second → gives ≡ is_some h.third → AHead text at h
     → (count_of seen takes gives ≤ 255 → v ≡ first_of takes gives + count_of seen takes gives) → Puts rows rows' count c (operation_row v h)
     → (count_of seen takes gives ≤ 255 → after ≡ one_more seen takes gives)
     → AnOperation text rows rows' at count seen (record { at = h.at; count = c; seen = after })
@@ -355,7 +344,7 @@ operation-read {text} {rows} {rows'} {at} {count} {c} {v} {seen} {after} {h} tak
   kind-of : {is : List ℕ} (ws' : List Word) (o : Operation) → OperationIn is (words_at text at) ws' o → kind_of o ≡ first_of takes gives
   kind-of ws' o q =
       let r = a.reads ws' o q in
-      rw (given-part text 257 h.second o.takes r.takes, given-part text 257 h.third o.gives r.gives, ← e, ← f) refl
+      rw (r.taking, r.giving, ← e, ← f) refl
 
   few : {is : List ℕ} (ws' : List Word) (o : Operation) → OperationIn is (words_at text at) ws' o → Kinds is seen → count_of seen takes gives ≤ 255
   few {is} ws' o q k =
@@ -471,11 +460,11 @@ operations-stuck {text} {rows} {rows'} {i} {n} {seen} {o} a k = record {
 
 -- Rules
 
-abbrev rule_row : ℕ → WordAt → Part → Row
-rule_row k w third = record { class = 7; value = k; name = record { start = w.start; len = w.len }; second = record { start = 0; len = 0 }; third = third }
+abbrev rule_row : ℕ → WordAt → Maybe Part → Row
+rule_row k w third = record { class = 7; value = k; name = part_of w; second = None; third = third }
 
-pub rule-read : {text rows rows' : List ℕ} {at count k c to : ℕ} {w : WordAt} {g : Optional} → Here text at w
-    → Reads (GivesIn (words_at text w.next)) text w.next 257 g → Puts rows rows' count c (rule_row k w g.part) → Skips text g.at to
+pub rule-read : {text rows rows' : List ℕ} {at count k c to : ℕ} {w : WordAt} {g : Maybe Part × ℕ} → Here text at w
+    → Reads (GivesIn (words_at text w.next)) text w.next 257 g → Puts rows rows' count c (rule_row k w g.0) → Skips text g.1 to
     → ARule text rows rows' at count k (record { at = to; count = c })
 rule-read {text} {rows} {rows'} {at} {count} {k} {c} {to} {w} {g} h f p s = record {
   bounds = record { low = omega (arith, h.onto, f.low, s.low); high = s.high; more = p.more; small = p.small };
@@ -494,7 +483,7 @@ rule-read {text} {rows} {rows'} {at} {count} {k} {c} {to} {w} {g} h f p s = reco
   added ws' x (a_line {ws₂ = ws₂} t u d) r =
       let u' : GivesIn (words_at text w.next) ws₂ x.gives = rw (took-rest h (omega arith) t) at u in
       appended text (of_rule k x) p
-      (decl-is text (rule_row k w g.part) (of_rule k x) refl refl (took-word h t) (option-none text (second_kind 7) (record { start = 0; len = 0 }) refl)
+      (decl-is text (rule_row k w g.0) (of_rule k x) refl refl (took-word h t) (option-none text (second_kind 7) None refl)
       (f.word ws₂ x.gives u')) r
 
 pub rules-last : {text rows rows' : List ℕ} {i n k : ℕ} {x : Spot} {w : WordAt} → ARule text rows rows' i n k x → Here text x.at w → (w.kind ≡ 257 → ⊥)

@@ -7,7 +7,7 @@ use native.Mathlib.Numerals.{add-one}
 use native.Mathlib.Omega.{arith}
 use lib.ListN.{length, get_or, set, length-set, length-append}
 use lib.Seq.{get_or-set_same, get_or-set_other}
-use Rattle.collector.specs.Collecting.{set_two, set_words, set_row, decl_in, Appends, Puts}
+use Rattle.collector.specs.Collecting.{set_two, set_words, set_row, decl_in, written, Appends, Puts}
 use Rattle.collector.specs.declared.Row.{Row}
 use Rattle.declarations.specs.Decls.{Decl}
 use Rattle.symbols.specs.Rows.{decl_at, held, held_from}
@@ -32,7 +32,7 @@ module _ (rows : List ℕ) (i : ℕ) (d : Row) where
   two = set_two one (8 * i + 2) d.name.start d.name.len
 
   abbrev three : List ℕ
-  three = set_two two (8 * i + 4) d.second.start d.second.len
+  three = set_two two (8 * i + 4) (written d.second).start (written d.second).len
 
   sized-two : length two ≡ length rows
   sized-two = two-length one _ _ _ ∙ two-length rows _ _ _
@@ -82,17 +82,17 @@ module _ (rows : List ℕ) (i : ℕ) (d : Row) where
     at-3 : get_or (set_row rows i d) (8 * i + 3) 0 ≡ d.name.len
     at-3 = behind-two (8 * i + 3) (omega arith) ∙ two-second one (8 * i + 2) _ _ (8 * i + 3) (omega arith) (omega (arith, two-length rows (8 * i) d.class d.value))
 
-    at-4 : get_or (set_row rows i d) (8 * i + 4) 0 ≡ d.second.start
+    at-4 : get_or (set_row rows i d) (8 * i + 4) 0 ≡ (written d.second).start
     at-4 = behind-three (8 * i + 4) (omega arith) ∙ two-first two (8 * i + 4) _ _ (omega (arith, sized-two))
 
-    at_5 : get_or (set_row rows i d) (8 * i + 5) 0 ≡ d.second.len
+    at_5 : get_or (set_row rows i d) (8 * i + 5) 0 ≡ (written d.second).len
     at_5 = behind-three (8 * i + 5) (omega arith) ∙ two-second two (8 * i + 4) _ _ (8 * i + 5) (omega arith) (omega (arith, sized-two))
 
-    at-6 : get_or (set_row rows i d) (8 * i + 6) 0 ≡ d.third.start
+    at-6 : get_or (set_row rows i d) (8 * i + 6) 0 ≡ (written d.third).start
     unfolding set_row
     at-6 = two-first three (8 * i + 6) _ _ (omega (arith, sized-three))
 
-    at_7 : get_or (set_row rows i d) (8 * i + 7) 0 ≡ d.third.len
+    at_7 : get_or (set_row rows i d) (8 * i + 7) 0 ≡ (written d.third).len
     unfolding set_row
     at_7 = two-second three (8 * i + 6) _ _ (8 * i + 7) (omega arith) (omega (arith, sized-three))
 

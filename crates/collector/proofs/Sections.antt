@@ -6,13 +6,14 @@ use Prim.Native.Nat.{ℕ, ◌+◌, ◌≤◌, max}
 use native.Mathlib.Omega.{arith}
 use lib.Dec.{T, eqb}
 use lib.ListN.{length}
+use Rattle.std.specs.Prelude.{None}
 use Rattle.collector.proofs.Standing.{entries_at}
 use Rattle.collector.proofs.Laws.{appended, decl-is}
 use Rattle.collector.proofs.Lines.{rules-lines}
 use Rattle.collector.proofs.Rows.{appends-none, appends-then}
 use Rattle.collector.proofs.Skips.{entries-behind}
 use Rattle.collector.proofs.Words.{next-kind, not-kind, option-none, reference-start, start-again, took-at, took-kind, took-past, took-rest, took-word}
-use Rattle.collector.specs.Collecting.{ASection, AllStand, all_more, all_none, Appends, BothIn, CollectedFor, Collects, ErrorsIn, Goes, InputsIn, Keeps, LinedIn, lined, LinesIn, MechanismIn, OperatorsSectionIn, OutputsIn, Puts, Room, RowsFor, Skips, SomeEntries, SomeOperations, SomeRules, SomeSections, Stands, TokensIn, TypeIn, a_mechanism, a_type, alone, doubled, some_both, some_errors, some_inputs, some_operators_lem, some_outputs}
+use Rattle.collector.specs.Collecting.{ASection, AllStand, all_more, all_none, Appends, BothIn, CollectedFor, Collects, ErrorsIn, Goes, InputsIn, Keeps, LinedIn, lined, LinesIn, MechanismIn, OperatorsSectionIn, OutputsIn, Puts, Room, RowsFor, Skips, SomeEntries, SomeOperations, SomeRules, SomeSections, Stands, TokensIn, TypeIn, part_of, a_mechanism, a_type, alone, doubled, some_both, some_errors, some_inputs, some_operators_lem, some_outputs}
 use Rattle.collector.specs.declared.Entries.{Entries}
 use Rattle.collector.specs.declared.Operated.{Operated}
 use Rattle.collector.specs.declared.Row.{Row}
@@ -264,7 +265,7 @@ tokens-both {text} {at = at} {w = w} h e u = behind h inner u where
 -- A type and its members
 
 abbrev type_row : WordAt → Row
-type_row w = record { class = 5; value = 0; name = record { start = w.start; len = w.len }; second = record { start = 0; len = 0 }; third = record { start = 0; len = 0 } }
+type_row w = record { class = 5; value = 0; name = part_of w; second = None; third = None }
 
 pub type-read : {text rows rows₁ rows' : List ℕ} {at n c : ℕ} {t : State} {w : WordAt} {e : Entries} → Here text at w → Puts rows rows₁ n c (type_row w) → length rows₁ ≡ length rows
     → SomeEntries (ListedIn false 0 (words_at text w.next)) text rows₁ rows' w.next c (8 + n) 0 e
@@ -302,7 +303,7 @@ type-read {text} {rows} {rows₁} {rows'} {at} {n} {c} {t} {w} {e} h p z u = rec
   added s ws' (values v es) (a_type {ws₁ = ws₁} a q) k r =
       let q' : ListedIn false 0 (words_at text w.next) ws' es = rw (took-rest h (omega arith) a) at q in
       let b = appended text (of_type v) p
-      (decl-is text (type_row w) (of_type v) refl refl (took-word h a) (option-none text (second_kind 5) (record { start = 0; len = 0 }) refl) (option-none text 257 (record { start = 0; len = 0 }) refl))
+      (decl-is text (type_row w) (of_type v) refl refl (took-word h a) (option-none text (second_kind 5) None refl) (option-none text 257 None refl))
       (record { size = r.size; room = omega (arith, r.room) }) in
       appends-then b (u.appends ws' es q' (record { size = z ∙ r.size; room = omega (arith, r.room, b.counted) }))
   added s ws' (inputs _) x5 k r = elim x5 [ ]
@@ -384,7 +385,7 @@ mechanism-read {text} {rows} {rows'} {at} {n} {t} {w} {c} {o} h m u = record {
 -- A section of operators
 
 abbrev operators_row : WordAt → ℕ → Row
-operators_row w v = record { class = 600; value = v; name = record { start = w.start; len = w.len }; second = record { start = 0; len = 0 }; third = record { start = 0; len = 0 } }
+operators_row w v = record { class = 600; value = v; name = part_of w; second = None; third = None }
 
 first-place : {text : List ℕ} {at : ℕ} {w : WordAt} {ws' : List Word} {os : List Operator} → Here text at w → OperatorsIn (words_at text at) ws' os → place_of os ≡ w.start
 first-place h (last_operator (one_operator r d e low high s t) q) = reference-start h r
@@ -426,7 +427,7 @@ operators-read {text} {rows} {rows'} {at} {n} {c} {to} {t} {w} {colon} {first} h
       → Appends text rows rows' n c (section_decls n x)
   added s ws' (operators v os) (some_operators_lem a b q) z r =
       appended text (of_operators v os) p
-      (decl-is text (operators_row w first.start) (of_operators v os) refl (first-place f (inner a b q)) (took-word h a) (option-none text (second_kind 600) (record { start = 0; len = 0 }) refl) (option-none text 257 (record { start = 0; len = 0 }) refl))
+      (decl-is text (operators_row w first.start) (of_operators v os) refl (first-place f (inner a b q)) (took-word h a) (option-none text (second_kind 600) None refl) (option-none text 257 None refl))
       r
   added s ws' (inputs _) x5 z r = elim x5 [ ]
   added s ws' (outputs _) x6 z r = elim x6 [ ]

@@ -10,7 +10,8 @@ use lib.ListN.{length, get_or, take, drop, length-take}
 use lib.Seq.{drop-drop}
 use borrow.Author.Tests.{ne_eqb}
 use Rattle.std.specs.Prelude.{if◌then◌else◌}
-use Rattle.collector.specs.Collecting.{option_in}
+use Rattle.std.specs.Prelude.{Option as Maybe}
+use Rattle.collector.specs.Collecting.{option_in, written}
 use Rattle.collector.specs.declared.Part.{Part}
 use Rattle.grammar.specs.Derived.{Took, Not, Reference, by_name, by_string}
 use Rattle.places.proofs.Heres as heres
@@ -145,12 +146,12 @@ reference-start n (by_string t) = ap (λ (x : Word). x.start) (took-word n t)
 
 -- Words that may be there
 
-pub option-some : {text : List ℕ} {at k : ℕ} {w : WordAt} {v : Word} {ws' : List Word} (p : Part) → Here text at w → 2 ≤ k → Took k (words_at text at) v ws'
-    → p.start ≡ w.start → p.len ≡ w.len → some v ≡ option_in text k p
+pub option-some : {text : List ℕ} {at k : ℕ} {w : WordAt} {v : Word} {ws' : List Word} (p : Maybe Part) → Here text at w → 2 ≤ k → Took k (words_at text at) v ws'
+    → (written p).start ≡ w.start → (written p).len ≡ w.len → some v ≡ option_in text k p
 unfolding option_of
 option-some {text} {k = k} {w} p n h t e f =
     rw (e, f, ne_eqb w.len 0 (λ z. omega (arith, some-len n (omega (arith, took-kind n t))))) (ap some (took-word n t))
 
-pub option-none : (text : List ℕ) (k : ℕ) (p : Part) → p.len ≡ 0 → none ≡ option_in text k p
+pub option-none : (text : List ℕ) (k : ℕ) (p : Maybe Part) → (written p).len ≡ 0 → none ≡ option_in text k p
 unfolding option_of
 option-none text k p e = rw e refl

@@ -1,14 +1,14 @@
 -- What the functions of the second pass promise, for every tree that the text was read as. `rows` are the rows before, `rows'` those after;
 -- `count` rows are in use before.
-use Rattle.std.specs.Prelude.{Bool, true, false, List, [], ◌∷◌, ◌++◌, ◌≡◌, ℕ, ◌+◌, ◌*◌, ◌≤◌, ◌<◌, max, eqb, length, set, if◌then◌else◌}
+use Rattle.std.specs.Prelude.{Option as Maybe, is_some, unwrap_or, Bool, true, false, List, [], ◌∷◌, ◌++◌, ◌≡◌, ℕ, ◌+◌, ◌*◌, ◌≤◌, ◌<◌, max, eqb, length, set, if◌then◌else◌}
 use Rattle.std.proofs.Math.Option.{Option, some}
+use Rattle.base.specs.Common.{given}
 use Rattle.base.specs.Tree.{done}
 use Rattle.collector.specs.declared.Collected.{Collected}
 use Rattle.collector.specs.declared.Entered.{Entered}
 use Rattle.collector.specs.declared.Entries.{Entries}
 use Rattle.collector.specs.declared.Head.{Head}
 use Rattle.collector.specs.declared.Operated.{Operated}
-use Rattle.collector.specs.declared.Optional.{Optional}
 use Rattle.collector.specs.declared.Part.{Part}
 use Rattle.collector.specs.declared.Row.{Row}
 use Rattle.collector.specs.declared.Sectioned.{Sectioned}
@@ -31,9 +31,17 @@ use Rattle.words.specs.Words.{Word, words_at}
 abbrev pub in_text : List ℕ → Part → Type 0
 in_text text p = p.start + p.len ≤ length text
 
+-- the part of a word
+abbrev pub part_of : WordAt → Part
+part_of w = record { start = w.start; len = w.len }
+
+-- what the rows say of a part that may be there
+abbrev pub written : Maybe Part → Part
+written o = unwrap_or o (record { start = 0; len = 0 })
+
 -- a word that may be there
-abbrev pub option_in : List ℕ → ℕ → Part → Option Word
-option_in text kind p = option_of text kind p.start p.len
+abbrev pub option_in : List ℕ → ℕ → Maybe Part → Option Word
+option_in text kind o = option_of text kind (written o).start (written o).len
 
 -- the declaration of a row
 unfoldable pub decl_in : List ℕ → Row → Decl
@@ -50,8 +58,8 @@ pub record Small (d : Row) : Type 0 where
   pub class : d.class ≤ 65535
   pub value : d.value ≤ 65535
   pub name : d.name.start + d.name.len ≤ 65535
-  pub second : d.second.start + d.second.len ≤ 65535
-  pub third : d.third.start + d.third.len ≤ 65535
+  pub second : (written d.second).start + (written d.second).len ≤ 65535
+  pub third : (written d.third).start + (written d.third).len ≤ 65535
 
 abbrev pub set_two : List ℕ → ℕ → ℕ → ℕ → List ℕ
 set_two rows k a b = set (set rows k a) (k + 1) b
@@ -62,8 +70,8 @@ set_words rows k d =
     set_two
     (set_two
     (set_two rows (k + 2) d.name.start d.name.len)
-    (k + 4) d.second.start d.second.len)
-    (k + 6) d.third.start d.third.len
+    (k + 4) (written d.second).start (written d.second).len)
+    (k + 6) (written d.third).start (written d.third).len
 
 -- row i is written
 unfoldable pub set_row : List ℕ → ℕ → Row → List ℕ
@@ -99,24 +107,14 @@ pub record Goes (text : List ℕ) (at to : ℕ) (ws' : List Word) : Type 0 where
 
 -- Parts of entries and of operations
 
--- r is the word w, or none at the place `at`
-pub record IsWord (w : WordAt) (r : Optional) : Type 0 where
-  pub start : r.part.start ≡ w.start
-  pub len : r.part.len ≡ w.len
-  pub next : r.at ≡ w.next
-
-pub record IsNone (at : ℕ) (r : Optional) : Type 0 where
-  pub start : r.part.start ≡ 0
-  pub len : r.part.len ≡ 0
-  pub next : r.at ≡ at
-
--- a word that may be there was read: F are the families of crate grammar for such words
-pub record Reads (F : List Word → Option Word → Type 0) (text : List ℕ) (at kind : ℕ) (r : Optional) : Type 0 where
-  pub low : at ≤ r.at
-  pub high : r.at ≤ length text
-  pub inside : in_text text r.part
-  pub word : (ws' : List Word) (o : Option Word) → F ws' o → o ≡ option_in text kind r.part
-  pub rest : (ws' : List Word) (o : Option Word) → F ws' o → ws' ≡ words_at text r.at
+-- a word that may be there was read, r.1 is the place behind it: F are the families of crate grammar for such words
+pub record Reads (F : List Word → Option Word → Type 0) (text : List ℕ) (at kind : ℕ) (r : Maybe Part × ℕ) : Type 0 where
+  pub low : at ≤ r.1
+  pub high : r.1 ≤ length text
+  pub inside : in_text text (written r.0)
+  pub there : (ws' : List Word) (o : Option Word) → F ws' o → given o ≡ is_some r.0
+  pub word : (ws' : List Word) (o : Option Word) → F ws' o → o ≡ option_in text kind r.0
+  pub rest : (ws' : List Word) (o : Option Word) → F ws' o → ws' ≡ words_at text r.1
 
 -- a value that is set or counted
 pub record Counts (text : List ℕ) (at v : ℕ) (r : Valued) : Type 0 where
@@ -131,15 +129,17 @@ pub record HeadRead (text : List ℕ) (at : ℕ) (ws' : List Word) (o : Operatio
   pub past : at < r.at
   pub rest : ws' ≡ words_at text r.at
   pub name : o.operation ≡ word_of text 257 r.name.start r.name.len
+  pub taking : given o.takes ≡ is_some r.second
   pub takes : o.takes ≡ option_in text 257 r.second
+  pub giving : given o.gives ≡ is_some r.third
   pub gives : o.gives ≡ option_in text 257 r.third
 
 pub record AHead (text : List ℕ) (at : ℕ) (r : Head) : Type 0 where
   pub low : at ≤ r.at
   pub high : r.at ≤ length text
   pub name : in_text text r.name
-  pub second : in_text text r.second
-  pub third : in_text text r.third
+  pub second : in_text text (written r.second)
+  pub third : in_text text (written r.third)
   pub reads : {is : List ℕ} (ws' : List Word) (o : Operation) → OperationIn is (words_at text at) ws' o → HeadRead text at ws' o r
 
 -- Entries

@@ -7,9 +7,9 @@ ghost use Rattle.grammar.specs.Derived.{SpellingIn, GivesIn, TakesIn, EntriesIn,
 ghost use Rattle.reader.specs.Counting.{count_of, one_more};
 ghost use Rattle.syntax.specs.Sections.{first_of};
 ghost use Rattle.words.specs.Words.{words_at};
-ghost use Rattle.collector.specs.Collecting.{Small, set_two, set_words, Puts, IsWord, IsNone, Reads, Counts, AHead, AnEntry, SomeEntries, AnOperation, SomeOperations, TokensIn, InputsIn, BothIn, OutputsIn, ErrorsIn, TypeIn, MechanismIn, OperatorsSectionIn, ASection, SomeSections, Skips, ARule, SomeRules, Collects};
+ghost use Rattle.collector.specs.Collecting.{Small, set_two, set_words, Puts, part_of, Reads, Counts, AHead, AnEntry, SomeEntries, AnOperation, SomeOperations, TokensIn, InputsIn, BothIn, OutputsIn, ErrorsIn, TypeIn, MechanismIn, OperatorsSectionIn, ASection, SomeSections, Skips, ARule, SomeRules, Collects};
 
-use reader::{Seen, count_of, larger, look, number_of, one_more};
+use reader::{Seen, count_of, look, number_of, one_more};
 use scanner::WordAt;
 
 // The first numbers of operations, by kind: updates, updates with a parameter, choices, choices with a parameter.
@@ -25,61 +25,70 @@ const ASK_WITH: usize = base::ASK_WITH as usize;
 const LAST_OF_KIND: usize = base::OPERATIONS - 1;
 
 // How many rows there are, the row of the first rule, the place of the first rule's name.
-#[derive(Clone, Copy)]
+#[derive(Clone, Copy, Debug, PartialEq, Eq)]
 pub struct Collected {
     pub count: usize,
     pub rules: usize,
     pub at: usize,
 }
 
-// A word of the text. Length 0: no word.
-#[derive(Clone, Copy)]
+// A word of the text.
+#[derive(Clone, Copy, Debug, PartialEq, Eq)]
 pub struct Part {
     pub start: usize,
     pub len: usize,
 }
 
-#[derive(Clone, Copy)]
+// What the rows say where there is no word.
+const NO_PART: Part = Part { start: 0, len: 0 };
+
+impl From<WordAt> for Part {
+    ghost from_gives = { λ w part. part ≡ part_of w };
+
+    fn from(w: WordAt) -> Part {
+        Part {
+            start: w.start,
+            len: w.len,
+        }
+    }
+}
+
+// A declaration: a word that is not there is none.
+
+#[derive(Clone, Copy, Debug, PartialEq, Eq)]
 pub struct Row {
     pub class: usize,
     pub value: usize,
     pub name: Part,
-    pub second: Part,
-    pub third: Part,
-}
-
-// A word that may be there, and the place behind it.
-#[derive(Clone, Copy)]
-pub struct Optional {
-    pub part: Part,
-    pub at: usize,
+    pub second: Option<Part>,
+    pub third: Option<Part>,
 }
 
 // A value, and the place behind it.
-#[derive(Clone, Copy)]
+#[derive(Clone, Copy, Debug, PartialEq, Eq)]
 pub struct Valued {
     pub value: usize,
     pub at: usize,
 }
 
 // An operation's name, its types, and the place behind it.
-#[derive(Clone, Copy)]
+#[derive(Clone, Copy, Debug, PartialEq, Eq)]
 pub struct Head {
     pub name: Part,
-    pub second: Part,
-    pub third: Part,
+    pub second: Option<Part>,
+    pub third: Option<Part>,
     pub at: usize,
 }
 
 // The place behind what was read, and the rows in use.
-#[derive(Clone, Copy)]
+#[derive(Clone, Copy, Debug, PartialEq, Eq)]
 pub struct Spot {
     pub at: usize,
     pub count: usize,
 }
 
 // An entry: and its value.
-#[derive(Clone, Copy)]
+#[derive(Clone, Copy, Debug, PartialEq, Eq)]
 pub struct Entered {
     pub at: usize,
     pub count: usize,
@@ -87,7 +96,7 @@ pub struct Entered {
 }
 
 // Entries: and one above the greatest value.
-#[derive(Clone, Copy)]
+#[derive(Clone, Copy, Debug, PartialEq, Eq)]
 pub struct Entries {
     pub at: usize,
     pub count: usize,
@@ -121,13 +130,6 @@ pub struct Sectioned {
 
 // Rows
 
-fn narrow(n: usize) -> u16
-    requires { n ≤ 65535 }
-    ensures { result ≡ n }
-{
-    n as u16
-}
-
 fn put_two(rows: &mut [u16], k: usize, a: u16, b: u16)
     requires { k + 2 ≤ length rows.old }
     ensures { rows.new ≡ set_two rows.old k a b }
@@ -140,7 +142,7 @@ pub fn put_part(rows: &mut [u16], k: usize, p: Part)
     requires { (k + 2 ≤ length rows.old) × (p.start + p.len ≤ 65535) }
     ensures { rows.new ≡ set_two rows.old k p.start p.len }
 {
-    put_two(rows, k, narrow(p.start), narrow(p.len));
+    put_two(rows, k, p.start as u16, p.len as u16);
 }
 
 // The words of the row that begins at k.
@@ -148,12 +150,9 @@ fn put_words(rows: &mut [u16], k: usize, d: Row)
     requires { (k + 8 ≤ length rows.old) × Small d }
     ensures { rows.new ≡ set_words rows.old k d }
 {
-    let name = d.name;
-    let second = d.second;
-    let third = d.third;
-    put_part(rows, k + symbols::NAME_START, name);
-    put_part(rows, k + symbols::SECOND_START, second);
-    put_part(rows, k + symbols::THIRD_START, third);
+    put_part(rows, k + symbols::NAME_START, d.name);
+    put_part(rows, k + symbols::SECOND_START, d.second.unwrap_or(NO_PART));
+    put_part(rows, k + symbols::THIRD_START, d.third.unwrap_or(NO_PART));
 }
 
 // Row i is written, if it has its place: one more row.
@@ -161,67 +160,47 @@ pub fn put_row(rows: &mut [u16], i: usize, d: Row) -> usize
     requires { (i ≤ 512) × Small d }
     ensures { Puts rows.old rows.new i result d }
 {
-    if i == base::NAMES {
-        return i;
-    }
     let k = symbols::ROW * i;
-    if rows.len() < k + symbols::ROW {
+    if i == base::NAMES || rows.len() < k + symbols::ROW {
         return i;
     }
-    put_two(rows, k, narrow(d.class), narrow(d.value));
+    put_two(rows, k, d.class as u16, d.value as u16);
     put_words(rows, k, d);
     i + 1
 }
 
-// Words that may be there
-
-fn found(w: WordAt) -> Optional
-    ensures { IsWord w result }
-{
-    let part = Part {
-        start: w.start,
-        len: w.len,
-    };
-    Optional { part, at: w.next }
-}
-
-fn nothing(at: usize) -> Optional
-    ensures { IsNone at result }
-{
-    let part = Part { start: 0, len: 0 };
-    Optional { part, at }
-}
+// Words that may be there, each with the place behind it
 
 // An entry's string, where it may have one.
-fn read_spelling(text: &[u8], at: usize, strings: bool) -> Optional
+fn read_spelling(text: &[u8], at: usize, strings: bool) -> (Option<Part>, usize)
     requires { at ≤ length text.now }
     ensures { Reads (SpellingIn strings (words_at text.now at)) text.now at 259 result }
 {
     if strings {
         let w = look(text, at);
         if w.kind == words::STRING {
-            return found(w);
+            return (Some(Part::from(w)), w.next);
         }
-        return nothing(at);
     }
-    nothing(at)
+    (None, at)
 }
 
 // The type after `>>`, where there is one.
-fn read_gives(text: &[u8], at: usize) -> Optional
+fn read_gives(text: &[u8], at: usize) -> (Option<Part>, usize)
     requires { at ≤ length text.now }
     ensures { Reads (GivesIn (words_at text.now at)) text.now at 257 result }
 {
     let w = look(text, at);
     if w.kind == words::TWICE {
         let t = look(text, w.next);
-        return found(t);
+        (Some(Part::from(t)), t.next)
+    } else {
+        (None, at)
     }
-    nothing(at)
 }
 
 // A parameter's type in parentheses, where there is one.
-fn read_takes(text: &[u8], at: usize) -> Optional
+fn read_takes(text: &[u8], at: usize) -> (Option<Part>, usize)
     requires { at ≤ length text.now }
     ensures { Reads (TakesIn (words_at text.now at)) text.now at 257 result }
 {
@@ -229,28 +208,15 @@ fn read_takes(text: &[u8], at: usize) -> Optional
     if w.kind == words::OPENING {
         let t = look(text, w.next);
         let c = look(text, t.next);
-        let part = Part {
-            start: t.start,
-            len: t.len,
-        };
-        return Optional { part, at: c.next };
+        (Some(Part::from(t)), c.next)
+    } else {
+        (None, at)
     }
-    nothing(at)
 }
 
 // Values
 
-// At most 65,535.
-fn capped(n: usize) -> usize
-    ensures { (result ≤ 65535) × (n ≤ 65535 → result ≡ n) }
-{
-    if base::GREATEST_VALUE < n {
-        return base::GREATEST_VALUE;
-    }
-    n
-}
-
-// The value set by a number, or v.
+// The value set by a number, or v: at most 65,535.
 fn read_count(text: &[u8], at: usize, v: usize) -> Valued
     requires { at ≤ length text.now }
     ensures { Counts text.now at v result }
@@ -258,15 +224,15 @@ fn read_count(text: &[u8], at: usize, v: usize) -> Valued
     let w = look(text, at);
     if w.kind == words::EQUALS {
         let d = look(text, w.next);
-        let n = number_of(text, d.start, d.len);
-        return Valued {
-            value: capped(n),
+        Valued {
+            value: number_of(text, d.start, d.len).min(base::GREATEST_VALUE),
             at: d.next,
-        };
-    }
-    Valued {
-        value: capped(v),
-        at,
+        }
+    } else {
+        Valued {
+            value: v.min(base::GREATEST_VALUE),
+            at,
+        }
     }
 }
 
@@ -285,20 +251,14 @@ fn collect_entry(
     ensures { AnEntry text.now rows.old rows.new at count class strings v result }
 {
     let w = look(text, at);
-    let s = read_spelling(text, w.next, strings);
-    let n = read_count(text, s.at, v);
-    let name = Part {
-        start: w.start,
-        len: w.len,
-    };
-    let second = s.part;
-    let third = Part { start: 0, len: 0 };
+    let (second, behind) = read_spelling(text, w.next, strings);
+    let n = read_count(text, behind, v);
     let d = Row {
         class,
         value: n.value,
-        name,
+        name: Part::from(w),
         second,
-        third,
+        third: None,
     };
     let c = put_row(rows, count, d);
     Entered {
@@ -325,10 +285,11 @@ fn collect_entries(
     let mut n = count;
     let mut next = v;
     let mut most: usize = 0;
+    // no range: what is read says where the next begins
     loop {
         let e = collect_entry(text, i, rows, n, class, strings, next);
         let m = e.value + 1;
-        let top = larger(most, m);
+        let top = most.max(m);
         let w = look(text, e.at);
         let count = e.count;
         if w.kind == words::SEMICOLON {
@@ -369,16 +330,12 @@ fn collect_listed(
 fn first_of(takes: bool, gives: bool) -> usize
     ensures { (result ≡ first_of takes gives) × (result ≤ 1024) }
 {
-    if takes {
-        if gives {
-            return ASK_WITH;
-        }
-        return UPDATE_WITH;
+    match (takes, gives) {
+        (true, true) => ASK_WITH,
+        (true, false) => UPDATE_WITH,
+        (false, true) => ASK,
+        (false, false) => UPDATE,
     }
-    if gives {
-        return ASK;
-    }
-    UPDATE
 }
 
 // The next number of a kind, which has at most 256.
@@ -386,20 +343,21 @@ fn next_number(seen: Seen, takes: bool, gives: bool) -> usize
     ensures { (result ≤ 65535) × (count_of seen takes gives ≤ 255 → result ≡ first_of takes gives + count_of seen takes gives) }
 {
     let n = count_of(seen, takes, gives);
-    if LAST_OF_KIND < n {
-        return 0;
+    if n <= LAST_OF_KIND {
+        first_of(takes, gives) + n
+    } else {
+        0
     }
-    first_of(takes, gives) + n
 }
 
 fn with_one(seen: Seen, takes: bool, gives: bool) -> Seen
     ensures { count_of seen takes gives ≤ 255 → result ≡ one_more seen takes gives }
 {
-    let n = count_of(seen, takes, gives);
-    if LAST_OF_KIND < n {
-        return seen;
+    if count_of(seen, takes, gives) <= LAST_OF_KIND {
+        one_more(seen, takes, gives)
+    } else {
+        seen
     }
-    one_more(seen, takes, gives)
 }
 
 fn read_head(text: &[u8], at: usize) -> Head
@@ -407,19 +365,13 @@ fn read_head(text: &[u8], at: usize) -> Head
     ensures { AHead text.now at result }
 {
     let w = look(text, at);
-    let p = read_takes(text, w.next);
-    let g = read_gives(text, p.at);
-    let name = Part {
-        start: w.start,
-        len: w.len,
-    };
-    let second = p.part;
-    let third = g.part;
+    let (second, behind) = read_takes(text, w.next);
+    let (third, at) = read_gives(text, behind);
     Head {
-        name,
+        name: Part::from(w),
         second,
         third,
-        at: g.at,
+        at,
     }
 }
 
@@ -428,18 +380,15 @@ fn collect_operation(text: &[u8], at: usize, rows: &mut [u16], count: usize, see
     ensures { AnOperation text.now rows.old rows.new at count seen result }
 {
     let h = read_head(text, at);
-    let name = h.name;
-    let second = h.second;
-    let third = h.third;
-    let takes = second.len != 0;
-    let gives = third.len != 0;
+    let takes = h.second.is_some();
+    let gives = h.third.is_some();
     let value = next_number(seen, takes, gives);
     let d = Row {
         class: symbols::OPERATION,
         value,
-        name,
-        second,
-        third,
+        name: h.name,
+        second: h.second,
+        third: h.third,
     };
     let c = put_row(rows, count, d);
     let s = with_one(seen, takes, gives);
@@ -464,23 +413,19 @@ fn collect_operations(
     let mut i = at;
     let mut n = count;
     let mut counts = seen;
+    // no range: what is read says where the next begins
     loop {
         let o = collect_operation(text, i, rows, n, counts);
-        let s = o.seen;
         let w = look(text, o.at);
         if w.kind == words::SEMICOLON {
-            return Operated {
-                at: w.next,
-                count: o.count,
-                seen: s,
-            };
+            return Operated { at: w.next, ..o };
         }
         if o.at <= i {
             return o;
         }
         i = o.at;
         n = o.count;
-        counts = s;
+        counts = o.seen;
     }
 }
 
@@ -502,16 +447,12 @@ fn collect_both(text: &[u8], at: usize, rows: &mut [u16], count: usize, state: S
     requires { (at ≤ length text.now) × (length text.now ≤ 65535) × (count ≤ 512) }
     ensures { ASection BothIn text.now rows.old rows.new at count state result }
 {
-    let seen = state.seen;
-    let v = larger(state.input, state.output);
+    let v = state.input.max(state.output);
     let e = collect_listed(text, at, rows, count, symbols::BOTH, true, v);
-    let input = larger(state.input, e.top);
-    let output = larger(state.output, e.top);
     let after = State {
-        input,
-        output,
-        error: state.error,
-        seen,
+        input: state.input.max(e.top),
+        output: state.output.max(e.top),
+        ..state
     };
     Sectioned {
         at: e.at,
@@ -524,14 +465,10 @@ fn collect_inputs(text: &[u8], at: usize, rows: &mut [u16], count: usize, state:
     requires { (at ≤ length text.now) × (length text.now ≤ 65535) × (count ≤ 512) }
     ensures { ASection InputsIn text.now rows.old rows.new at count state result }
 {
-    let seen = state.seen;
     let e = collect_listed(text, at, rows, count, symbols::INPUT, true, state.input);
-    let input = larger(state.input, e.top);
     let after = State {
-        input,
-        output: state.output,
-        error: state.error,
-        seen,
+        input: state.input.max(e.top),
+        ..state
     };
     Sectioned {
         at: e.at,
@@ -551,14 +488,10 @@ fn collect_outputs(
     requires { (at ≤ length text.now) × (length text.now ≤ 65535) × (count ≤ 512) }
     ensures { ASection OutputsIn text.now rows.old rows.new at count state result }
 {
-    let seen = state.seen;
     let e = collect_listed(text, at, rows, count, symbols::OUTPUT, true, state.output);
-    let output = larger(state.output, e.top);
     let after = State {
-        input: state.input,
-        output,
-        error: state.error,
-        seen,
+        output: state.output.max(e.top),
+        ..state
     };
     Sectioned {
         at: e.at,
@@ -572,14 +505,10 @@ fn collect_errors(text: &[u8], at: usize, rows: &mut [u16], count: usize, state:
     requires { (at ≤ length text.now) × (length text.now ≤ 65535) × (count ≤ 512) }
     ensures { ASection ErrorsIn text.now rows.old rows.new at count state result }
 {
-    let seen = state.seen;
     let e = collect_listed(text, at, rows, count, symbols::ERROR, false, state.error);
-    let error = larger(state.error, e.top);
     let after = State {
-        input: state.input,
-        output: state.output,
-        error,
-        seen,
+        error: state.error.max(e.top),
+        ..state
     };
     Sectioned {
         at: e.at,
@@ -594,17 +523,12 @@ fn collect_type(text: &[u8], at: usize, rows: &mut [u16], count: usize, state: S
     ensures { ASection TypeIn text.now rows.old rows.new at count state result }
 {
     let w = look(text, at);
-    let name = Part {
-        start: w.start,
-        len: w.len,
-    };
-    let none = Part { start: 0, len: 0 };
     let d = Row {
         class: symbols::TYPE,
         value: 0,
-        name,
-        second: none,
-        third: none,
+        name: Part::from(w),
+        second: None,
+        third: None,
     };
     let c = put_row(rows, count, d);
     let e = collect_listed(text, w.next, rows, c, symbols::VALUES + count, false, 0);
@@ -628,14 +552,10 @@ fn collect_mechanism(
 {
     let n = look(text, at);
     let c = look(text, n.next);
-    let seen = state.seen;
-    let o = collect_operations(text, c.next, rows, count, seen);
-    let counts = o.seen;
+    let o = collect_operations(text, c.next, rows, count, state.seen);
     let after = State {
-        input: state.input,
-        output: state.output,
-        error: state.error,
-        seen: counts,
+        seen: o.seen,
+        ..state
     };
     Sectioned {
         at: o.at,
@@ -650,6 +570,7 @@ fn behind_semicolon(text: &[u8], at: usize) -> usize
     ensures { Skips text.now at result }
 {
     let mut i = at;
+    // no range: what is read says where the next begins
     loop {
         let w = look(text, i);
         if w.kind == words::SEMICOLON {
@@ -676,17 +597,12 @@ fn collect_operators(
     let w = look(text, at);
     let colon = look(text, w.next);
     let first = look(text, colon.next);
-    let name = Part {
-        start: w.start,
-        len: w.len,
-    };
-    let none = Part { start: 0, len: 0 };
     let d = Row {
         class: symbols::OPERATORS,
         value: first.start,
-        name,
-        second: none,
-        third: none,
+        name: Part::from(w),
+        second: None,
+        third: None,
     };
     let c = put_row(rows, count, d);
     let to = behind_semicolon(text, colon.next);
@@ -708,8 +624,7 @@ fn collect_section(
     ensures { ASection SectionIn text.now rows.old rows.new at count state result }
 {
     let w = look(text, at);
-    let kind = w.kind;
-    match kind {
+    match w.kind {
         words::INPUT => collect_tokens(text, w.next, rows, count, state),
         words::OUTPUT => collect_outputs(text, w.next, rows, count, state),
         words::ERROR => collect_errors(text, w.next, rows, count, state),
@@ -733,6 +648,7 @@ pub fn collect_sections(
     let mut i = at;
     let mut n = count;
     let mut sofar = state;
+    // no range: what is read says where the next begins
     loop {
         let w = look(text, i);
         if w.kind == words::RULES {
@@ -745,10 +661,9 @@ pub fn collect_sections(
                 count: x.count,
             };
         }
-        let s = x.state;
         i = x.at;
         n = x.count;
-        sofar = s;
+        sofar = x.state;
     }
 }
 
@@ -760,22 +675,16 @@ pub fn collect_rule(text: &[u8], at: usize, rows: &mut [u16], count: usize, k: u
     ensures { ARule text.now rows.old rows.new at count k result }
 {
     let w = look(text, at);
-    let g = read_gives(text, w.next);
-    let name = Part {
-        start: w.start,
-        len: w.len,
-    };
-    let second = Part { start: 0, len: 0 };
-    let third = g.part;
+    let (third, behind) = read_gives(text, w.next);
     let d = Row {
         class: symbols::RULE,
         value: k,
-        name,
-        second,
+        name: Part::from(w),
+        second: None,
         third,
     };
     let c = put_row(rows, count, d);
-    let to = behind_semicolon(text, g.at);
+    let to = behind_semicolon(text, behind);
     Spot { at: to, count: c }
 }
 
@@ -786,13 +695,11 @@ fn collect_rules(text: &[u8], at: usize, rows: &mut [u16], count: usize) -> usiz
 {
     let mut i = at;
     let mut n = count;
+    // no range: what is read says where the next begins
     loop {
         let r = collect_rule(text, i, rows, n, n - count);
         let w = look(text, r.at);
-        if w.kind != words::NAME {
-            return r.count;
-        }
-        if r.at <= i {
+        if w.kind != words::NAME || r.at <= i {
             return r.count;
         }
         i = r.at;

@@ -2,7 +2,7 @@
 // Nothing of this is in the walker's own loop.
 #![tactic(auto)]
 
-ghost use Rattle.std.specs.Prelude.{true, ◌≡◌, ◌+◌, ◌*◌, ◌-◌, ◌/◌, ◌%◌, ◌<◌, ◌≤◌, ◌^◌, min, eqb, ltb, length, take, drop, get_or, if◌then◌else◌};
+ghost use Rattle.std.specs.Prelude.{true, ◌≡◌, ◌+◌, ◌*◌, ◌-◌, ◌/◌, ◌%◌, ◌<◌, ◌≤◌, ◌^◌, min, eqb, ltb, length, take, drop, get_or, sum as total_of, if◌then◌else◌};
 ghost use Rattle.std.proofs.Math.Option.{none};
 ghost use Rattle.base.specs.Common.{same};
 ghost use Rattle.machine.specs.Bytes.{count, words_of, bytes_of};
@@ -37,10 +37,10 @@ const FIGURES_BYTES: usize = 2 * buffers::NUMBER_WORDS * NUMBERS;
 // A rule's row, as the map of a text's rules has it: three numbers.
 const ROW_BYTES: usize = 24;
 
-const GREATEST: u64 = 18446744073709551615;
+const GREATEST: u64 = u64::MAX;
 
 // What adding a book tells: the call's number, the events written, the steps done.
-#[derive(Clone, Copy)]
+#[derive(Clone, Copy, Debug, PartialEq, Eq)]
 pub struct Told {
     pub number: u16,
     pub events: u64,
@@ -48,7 +48,7 @@ pub struct Told {
 }
 
 // What figures say of the whole shelf.
-#[derive(Clone, Copy)]
+#[derive(Clone, Copy, Debug, PartialEq, Eq)]
 pub struct Report {
     pub number: u16,
     pub books: u64,
@@ -59,7 +59,7 @@ pub struct Report {
 }
 
 // A book's call: its limits, and whether it writes events and counts or only measures.
-#[derive(Clone, Copy)]
+#[derive(Clone, Copy, Debug, PartialEq, Eq)]
 struct Book {
     budget: u64,
     allowance: u16,
@@ -84,10 +84,7 @@ fn bump(counts: &mut [u64], l: usize, writes: bool)
     ensures { counts.new ≡ (if writes then sums.bump counts.old l else counts.old) }
 {
     // 0 or 1 is added: no test in the loop
-    let one: u64 = if writes { 1 } else { 0 };
-    let i = l - 1;
-    let c = counts[i];
-    counts[i] = c + one;
+    counts[l - 1] += u64::from(writes);
 }
 
 // The event e at word i, where a call writes.
@@ -114,7 +111,7 @@ fn stopped(
     ensures counts_after { counts.new ≡ (if writes then sums.bump counts.old l else counts.old) }
 {
     bump(counts, l, writes);
-    ended(walker::number_of(why), events, steps)
+    ended(u16::from(why), events, steps)
 }
 
 // A whole call from a fresh walk, its steps counted at their locations; or only measured, and then nothing is written. Room is words left for events.
@@ -135,10 +132,9 @@ fn count_book(
     let mut at = walker::fresh(b.allowance);
     let mut returns = [0u16; base::PENDING];
     let mut events: usize = 0;
-    let mut done: u64 = 0;
     let mut room = machine::count_words(out);
     let known = machine::LENGTHS;
-    while done < b.budget {
+    for done in 0..b.budget {
         let here = at.location;
         let terms = Terms { room, pause: false };
         let x = at.next(&known, &returns, table, tokens, answers, terms);
@@ -158,9 +154,8 @@ fn count_book(
             Next::Waits(_, _) => return ended(base::WAITS, events, next),
         }
         bump(counts, here, b.writes);
-        done = next;
     }
-    ended(base::SPENT, events, done)
+    ended(base::SPENT, events, b.budget)
 }
 
 // Figures as bytes
@@ -178,10 +173,8 @@ fn counts_of(s: &[u8]) -> [u64; LOCATIONS]
     ensures { result ≡ numbers_at (words_of s.now) 0 4096 }
 {
     let mut counts = [0u64; LOCATIONS];
-    let mut i: usize = 0;
-    while i < LOCATIONS {
+    for i in 0..LOCATIONS {
         counts[i] = number_at(s, i);
-        i += 1;
     }
     counts
 }
@@ -190,7 +183,7 @@ fn counts_of(s: &[u8]) -> [u64; LOCATIONS]
 fn flag(c: u64) -> u64
     ensures { (result ≡ sums.flag c) × (result < 2) }
 {
-    if c == 0 { 0 } else { 1 }
+    u64::from(c != 0)
 }
 
 // Word j of the bits: those of 64 locations, the first lowest.
@@ -199,9 +192,7 @@ fn bits_of(counts: &[u64], j: usize) -> u64
     ensures { result ≡ packed (take 64 (drop (j * 64) counts.now)) }
 {
     let mut w: u64 = 0;
-    let mut i: usize = BITS;
-    while 0 < i {
-        i -= 1;
+    for i in (0..BITS).rev() {
         w = w * 2 + flag(counts[j * BITS + i]);
     }
     w
@@ -212,12 +203,10 @@ fn covers(s: &[u8], counts: &[u64]) -> bool
     requires { (length s.now ≡ 33296) × (length counts.now ≡ 4096) }
     ensures { result ≡ same (numbers_at (words_of s.now) 4096 64) (bits_of 64 counts.now) }
 {
-    let mut j: usize = 0;
-    while j < BIT_WORDS {
+    for j in 0..BIT_WORDS {
         if number_at(s, BITS_NUMBER + j) != bits_of(counts, j) {
             return false;
         }
-        j += 1;
     }
     true
 }
@@ -227,14 +216,11 @@ fn adds_up(counts: &[u64], total: u64) -> bool
     ensures { result ≡ eqb total (sum counts.now) }
 {
     let mut left = total;
-    let mut i: usize = 0;
-    while i < counts.len() {
-        let c = counts[i];
-        if left < c {
+    for &count in counts {
+        if left < count {
             return false;
         }
-        left -= c;
-        i += 1;
+        left -= count;
     }
     left == 0
 }
@@ -246,16 +232,10 @@ fn is_sound(s: &[u8], counts: &[u64]) -> bool
 {
     let books = number_at(s, BOOKS_NUMBER);
     let total = number_at(s, TOTAL_NUMBER);
-    if books == 0 {
-        if total != 0 {
-            return false;
-        }
+    if books == 0 && total != 0 {
+        return false;
     }
-    if covers(s, counts) {
-        adds_up(counts, total)
-    } else {
-        false
-    }
+    covers(s, counts) && adds_up(counts, total)
 }
 
 // Number i of figures with these counts, their bits, books and total.
@@ -278,10 +258,8 @@ fn put_figures(out: &mut [u8], counts: &[u64], books: u64, total: u64)
     requires { (length out.old ≡ 33296) × (length counts.now ≡ 4096) }
     ensures { out.new ≡ bytes_of (form.number_words (numbers_of counts.now books total)) }
 {
-    let mut i: usize = 0;
-    while i < NUMBERS {
+    for i in 0..NUMBERS {
         buffers::put_number(out, i, figure(counts, books, total, i));
-        i += 1;
     }
 }
 
@@ -291,11 +269,8 @@ fn covered(s: &[u8]) -> u64
     ensures { result ≡ sums.covered (numbers_at (words_of s.now) 4096 64) }
 {
     let mut n: u64 = 0;
-    let mut j: usize = 0;
-    while j < BIT_WORDS {
-        let w = number_at(s, BITS_NUMBER + j);
-        n += u64::count_ones(w) as u64;
-        j += 1;
+    for j in 0..BIT_WORDS {
+        n += u64::from(number_at(s, BITS_NUMBER + j).count_ones());
     }
     n
 }
@@ -320,11 +295,7 @@ fn passes(
     if b.budget <= left {
         return false;
     }
-    let measured = Book {
-        budget: b.budget,
-        allowance: b.allowance,
-        writes: false,
-    };
+    let measured = Book { writes: false, ..b };
     let m = count_book(table, tokens, answers, measured, events, counts);
     left < m.steps
 }
@@ -385,13 +356,13 @@ fn no_report() -> Report
 fn mean_of(total: u64, books: u64) -> u64
     ensures { result ≡ (if eqb books 0 then 0 else total / books) }
 {
-    if books == 0 { 0 } else { total / books }
+    total.checked_div(books).unwrap_or(0)
 }
 
 fn rest_of(total: u64, books: u64) -> u64
     ensures { result ≡ (if eqb books 0 then 0 else total % books) }
 {
-    if books == 0 { 0 } else { total % books }
+    total.checked_rem(books).unwrap_or(0)
 }
 
 // What figures say of the whole shelf.
@@ -420,7 +391,7 @@ pub fn shelf_report(figures: &[u8]) -> Report
 // Rule by rule
 
 // A number, and a total of executions.
-#[derive(Clone, Copy)]
+#[derive(Clone, Copy, Debug, PartialEq, Eq)]
 pub struct Total {
     pub number: u16,
     pub total: u64,
@@ -436,15 +407,15 @@ fn totalled(number: u16, total: u64) -> Total
 fn count_index(location: u64) -> usize
     ensures { result ≡ min (location - 1) 4096 }
 {
-    if location == 0 {
-        return 0;
-    }
-    let i = location - 1;
-    if i < LOCATIONS as u64 {
-        i as usize
-    } else {
-        LOCATIONS
-    }
+    location.saturating_sub(1).min(LOCATIONS as u64) as usize
+}
+
+// The sum of some counts.
+fn sum_of(counts: &[u64]) -> u64
+    requires { total_of counts.now < 2 ^ 64 }
+    ensures { result ≡ total_of counts.now }
+{
+    counts.iter().sum()
 }
 
 // The executions of the locations from `from` on, up to `to` and without it: no more than all of them.
@@ -454,14 +425,7 @@ fn span(counts: &[u64], total: u64, from: u64, to: u64) -> u64
 {
     let start = count_index(from);
     let end = count_index(to);
-    let mut n: u64 = 0;
-    let mut k: usize = start;
-    while k < end {
-        let c = counts[k];
-        n += c;
-        k += 1;
-    }
-    n
+    sum_of(&counts[start.min(end)..end])
 }
 
 // The executions of one rule: its words begin at `from`, those of the next at `to`.
@@ -497,8 +461,7 @@ fn together(counts: &[u64], total: u64, rows: &[u8], n: usize, end: u64) -> Tota
     ensures { totals result ≡ spans.bounded (sum (spans.span_totals (spans.locations_at (words_of rows.now) 0 n) end counts.now)) }
 {
     let mut all: u64 = 0;
-    let mut i: usize = 0;
-    while i < n {
+    for i in 0..n {
         let from = location(rows, n, i, end);
         let to = location(rows, n, i + 1, end);
         let t = span(counts, total, from, to);
@@ -506,7 +469,6 @@ fn together(counts: &[u64], total: u64, rows: &[u8], n: usize, end: u64) -> Tota
             return totalled(base::PAST, 0);
         }
         all += t;
-        i += 1;
     }
     totalled(0, all)
 }

@@ -15,7 +15,8 @@ use Rattle.declarations.specs.Decls.{Decl, EntriesAt, index_of, elsewhere_in, ty
 use Rattle.declarer.specs.Faults.{Faults, clean, faulty, input_again, both_again, operation_again, types_in, line_again, line_fault, line_faults}
 use Rattle.grammar.specs.Derived.{OperatorsIn}
 use Rattle.names.specs.Known.{Checked, good, wrong, ◌>>=◌, fault_if}
-use Rattle.symbols.specs.Rows.{word_of, option_of, decl_at, held_from, held, Looks, found, missing}
+use Rattle.symbols.proofs.Numbered.{Numbered, found, missing}
+use Rattle.symbols.specs.Rows.{word_of, option_of, decl_at, held_from, held}
 use Rattle.symbols.specs.Search.{part}
 use Rattle.symbols.proofs.Searches.{held_next, held-end, held_at, held-length}
 use Rattle.syntax.specs.Written.{Operator}
@@ -53,16 +54,16 @@ moved e h = rw e h
 
 -- a type looked up
 
-looked : {f v at len : ℕ} {m : Checked ℕ} → Looks f v m → f ≡ 0 → Faults 0 at len m
+looked : {f v at len : ℕ} {m : Checked ℕ} → Numbered f v m → f ≡ 0 → Faults 0 at len m
 looked (found e h) z = clean refl
 looked (missing e n) z = absurd (n (sym e ∙ z))
 
 -- the word at fault is the one that was looked up
-type-fault : (f v len : ℕ) (ds before : List Decl) (w : Word) → Looks f v (type_in ds before w) → (f ≡ 0 → ⊥) → len ≡ length w.text
+type-fault : (f v len : ℕ) (ds before : List Decl) (w : Word) → Numbered f v (type_in ds before w) → (f ≡ 0 → ⊥) → len ≡ length w.text
     → Faults f w.start len (type_in ds before w)
 unfolding type_in
 type-fault f v len ds before w l z q = go (index_of 5 w.text 0 before) (given (index_of 5 w.text 0 ds)) (elsewhere_in ds w.text) l where
-  go : (o : Option ℕ) (b : Bool) (x : ℕ) → Looks f v (elim o [ some i ↦ good (8 + i) | none ↦ if b then wrong 3 w else wrong x w ])
+  go : (o : Option ℕ) (b : Bool) (x : ℕ) → Numbered f v (elim o [ some i ↦ good (8 + i) | none ↦ if b then wrong 3 w else wrong x w ])
       → Faults {A = ℕ} f w.start len (elim o [ some i ↦ good (8 + i) | none ↦ if b then wrong 3 w else wrong x w ])
   go (some i) b x (found e h) = absurd (z e)
   go none true x (missing e n) = faulty e n refl q
@@ -73,12 +74,12 @@ module _ (text : List ℕ) (ds before : List Decl) (start len : ℕ) (kind : ℕ
   unfolding optional_in option_of
   optional-none e = rw (eq-eqb len 0 e) (clean refl)
 
-  pub optional-good : (f v : ℕ) → (len ≡ 0 → ⊥) → Looks f v (type_in ds before (word_of text kind start len)) → f ≡ 0
+  pub optional-good : (f v : ℕ) → (len ≡ 0 → ⊥) → Numbered f v (type_in ds before (word_of text kind start len)) → f ≡ 0
       → Faults 0 0 0 (optional_in ds before (option_of text kind start len))
   unfolding optional_in option_of
   optional-good f v e l z = rw (ne_eqb len 0 e) (looked l z)
 
-  pub optional-wrong : (f v size : ℕ) → (len ≡ 0 → ⊥) → Looks f v (type_in ds before (word_of text kind start len)) → (f ≡ 0 → ⊥) → size ≡ length (part text start len)
+  pub optional-wrong : (f v size : ℕ) → (len ≡ 0 → ⊥) → Numbered f v (type_in ds before (word_of text kind start len)) → (f ≡ 0 → ⊥) → size ≡ length (part text start len)
       → Faults f start size (optional_in ds before (option_of text kind start len))
   unfolding optional_in option_of
   optional-wrong f v size e l z q = rw (ne_eqb len 0 e) (type-fault f v size ds before (word_of text kind start len) l z q)

@@ -29,7 +29,10 @@ use Rattle.program.specs.Made as made
 use Rattle.scanner.specs.Next.{Next, as_word}
 use Rattle.scanner.specs.declared.WordAt.{WordAt}
 use Rattle.symbols.proofs.Searches.{by_value, by_word}
-use Rattle.symbols.specs.Rows.{Looks, found, missing}
+use Rattle.std.specs.Option.{option_eq}
+use Rattle.std.specs.Prelude.{Option as Answer, Some}
+use Rattle.symbols.specs.Rows.{answer_of}
+use Rattle.symbols.proofs.Numbered.{Numbered, found, missing}
 use Rattle.symbols.specs.Search.{part, knows, declares, Tells, there, nowhere}
 use Rattle.syntax.specs.Reading.{peek}
 use Rattle.syntax.specs.Written.{Operator}
@@ -221,11 +224,11 @@ unfolding same_value
 token-none y e (there h l) = absurd (omega arith)
 token-none y e (nowhere h) = refl
 
-pub token-same : {v u : ℕ} {x y : Option ℕ} → (v ≡ 65536 → ⊥) → Tells u y → Tells v x → eqb v u ≡ same_value x y
+pub token-same : {v : ℕ} {r : Answer ℕ} {x : Option ℕ} (y : Option ℕ) → (v ≡ 65536 → ⊥) → r ≡ answer_of y → Tells v x → option_eq eqb (Some v) r ≡ same_value x y
 unfolding same_value
-token-same {v} {u} z (there {v = b} h l) (there {v = a} g m) = rw (h, g)
-token-same {v} {u} z (nowhere h) (there {v = a} g m) = ne_eqb v u (λ e. omega arith)
-token-same z t (nowhere g) = absurd (z g)
+token-same none z e (there g m) = rw e refl
+token-same (some u) z e (there g m) = rw (e, g) refl
+token-same y z e (nowhere g) = absurd (z g)
 
 pub levels-apart : (a b : ℕ) (s : Bool) → (a ≡ b → ⊥) → false ≡ (eqb a b && s)
 levels-apart a b s h = rw (ne_eqb a b h) refl
@@ -241,17 +244,17 @@ sides-same h e k = let z : _ ≡ false = sym h ∙ e in rw z k
 
 -- The fault of one entry
 
-looked-up : {f v at len : ℕ} (ds : List Decl) (c : ℕ) (w : Word) → Looks f v (lookup_in ds c w) → at ≡ w.start → len ≡ length w.text → Faults f at len (lookup_in ds c w)
+looked-up : {f v at len : ℕ} (ds : List Decl) (c : ℕ) (w : Word) → Numbered f v (lookup_in ds c w) → at ≡ w.start → len ≡ length w.text → Faults f at len (lookup_in ds c w)
 unfolding lookup_in
 looked-up {f} {v} {at} {len} ds c w l p q = go (find w.text (knowns_in c ds)) l
   where
-    go : (x : Option ℕ) → Looks f v (elim x as (λ _. Checked ℕ) [ some u ↦ good u | none ↦ wrong (elsewhere_in ds w.text) w ])
+    go : (x : Option ℕ) → Numbered f v (elim x as (λ _. Checked ℕ) [ some u ↦ good u | none ↦ wrong (elsewhere_in ds w.text) w ])
         → Faults {A = ℕ} f at len (elim x as (λ _. Checked ℕ) [ some u ↦ good u | none ↦ wrong (elsewhere_in ds w.text) w ])
     go (some u) (found e h) = clean e
     go none (missing e n) = faulty e n p q
 
 -- the same of the word that the code has
-looked-word : {f u v at len : ℕ} (ds : List Decl) (c : ℕ) (text : List ℕ) {w : Word} (a : WordAt) → w ≡ as_word text a → Looks u v (lookup_in ds c (as_word text a)) → f ≡ u → at ≡ a.start
+looked-word : {f u v at len : ℕ} (ds : List Decl) (c : ℕ) (text : List ℕ) {w : Word} (a : WordAt) → w ≡ as_word text a → Numbered u v (lookup_in ds c (as_word text a)) → f ≡ u → at ≡ a.start
     → len ≡ length (part text a.start a.len) → Faults f at len (lookup_in ds c w)
 looked-word ds c text {w} a e l h p q = rw (e, h) (looked-up ds c (as_word text a) l p q)
 
@@ -288,26 +291,29 @@ known-declared w (d ∷ ds) {v} e = (by_word w).cons 0 d ds ∙ go (knows 1 w d)
     go true p false q rest z = never (sym q ∙ known-declares w d p)
     go false p false q rest z = rest z
 
-token-nowhere : {t v : ℕ} (ds : List Decl) (w : Word) → Looks t v (lookup_in ds 1 w) → t ≡ 3 → not (declared_in w.text ds) ≡ true
+token-nowhere : {t v : ℕ} (ds : List Decl) (w : Word) → Numbered t v (lookup_in ds 1 w) → t ≡ 3 → not (declared_in w.text ds) ≡ true
 unfolding lookup_in elsewhere_in
 token-nowhere {t} {v} ds w l e = go (find w.text (knowns_in 1 ds)) (declared_in w.text ds) l
   where
-    go : (x : Option ℕ) (b : Bool) → Looks t v (elim x as (λ _. Checked ℕ) [ some u ↦ good u | none ↦ wrong (if b then 5 else 3) w ]) → not b ≡ true
+    go : (x : Option ℕ) (b : Bool) → Numbered t v (elim x as (λ _. Checked ℕ) [ some u ↦ good u | none ↦ wrong (if b then 5 else 3) w ]) → not b ≡ true
     go (some u) b (found p q) = absurd (omega (arith, p, e))
     go none true (missing p n) = absurd (omega (arith, p, e))
     go none false m = refl
 
-token-declared : {t v : ℕ} (ds : List Decl) (w : Word) → Looks t v (lookup_in ds 1 w) → (t ≡ 3 → ⊥) → not (declared_in w.text ds) ≡ false
+token-declared : {t v : ℕ} (ds : List Decl) (w : Word) → Numbered t v (lookup_in ds 1 w) → (t ≡ 3 → ⊥) → not (declared_in w.text ds) ≡ false
 unfolding lookup_in elsewhere_in
 token-declared {t} {v} ds w l n = go (find w.text (knowns_in 1 ds)) refl (declared_in w.text ds) refl l
   where
-    go : (x : Option ℕ) → find w.text (knowns_in 1 ds) ≡ x → (b : Bool) → declared_in w.text ds ≡ b → Looks t v (elim x as (λ _. Checked ℕ) [ some u ↦ good u | none ↦ wrong (if b then 5 else 3) w ]) → not b ≡ false
+    go : (x : Option ℕ) → find w.text (knowns_in 1 ds) ≡ x → (b : Bool) → declared_in w.text ds ≡ b → Numbered t v (elim x as (λ _. Checked ℕ) [ some u ↦ good u | none ↦ wrong (if b then 5 else 3) w ]) → not b ≡ false
     go x p true q m = refl
     go (some u) p false q m = never (sym q ∙ known-declared w.text ds p)
     go none p false q (missing h z) = absurd (n h)
 
+pub not-three : {n : ℕ} {b : Bool} → b ≡ eqb n 3 → b ≡ false → n ≡ 3 → ⊥
+not-three {n} e f z = never (sym f ∙ e ∙ eq-eqb n 3 z)
+
 module _ (ds : List Decl) (before : List Operator) {text : List ℕ} {from : ℕ} {o : Operator} {ws₁ : List Word} {e : Entry} (is : EntryIs text from o ws₁ e) {t v : ℕ}
-    (ht : Looks t v (lookup_in ds 1 (as_word text e.token))) where
+    (ht : Numbered t v (lookup_in ds 1 (as_word text e.token))) where
   pub entry-nowhere : {f at len : ℕ} → t ≡ 3 → f ≡ 3 → at ≡ e.token.start → len ≡ length (part text e.token.start e.token.len) → Faults f at len (entry_fault ds before o)
   unfolding entry_fault
   entry-nowhere q h p l = stops _ (again _ _ _ _ 3 o.token undeclared h (λ z. omega arith) (rw is.token p) (rw is.token l)) (λ z. omega arith)
@@ -333,7 +339,7 @@ module _ (ds : List Decl) (before : List Operator) {text : List ℕ} {from : ℕ
           goes _ (once 0 0 0 _ 45 o.token (sym ha ∙ r) refl) refl (λ _.
           stops _ (looked-word ds 1 text e.token is.token ht h p l) (λ y. z (sym h ∙ y))))
 
-      pub entry-emits : {u v₂ f at len : ℕ} → t ≡ 0 → Looks u v₂ (lookup_in ds 2 (as_word text e.emits)) → f ≡ u → at ≡ e.emits.start
+      pub entry-emits : {u v₂ f at len : ℕ} → t ≡ 0 → Numbered u v₂ (lookup_in ds 2 (as_word text e.emits)) → f ≡ u → at ≡ e.emits.start
           → len ≡ length (part text e.emits.start e.emits.len) → Faults f at len (entry_fault ds before o)
       unfolding entry_fault
       entry-emits z hu h p l =
@@ -341,6 +347,19 @@ module _ (ds : List Decl) (before : List Operator) {text : List ℕ} {from : ℕ
           goes _ (once 0 0 0 _ 45 o.token (sym ha ∙ r) refl) refl (λ _.
           goes _ (looked-word ds 1 text e.token is.token ht refl refl refl) z (λ _.
           ends (looked-word ds 2 text e.emits is.emits hu h p l))))
+
+      -- no fault, whatever the places
+      pub entry-clean : {u v₂ at len : ℕ} → t ≡ 0 → Numbered u v₂ (lookup_in ds 2 (as_word text e.emits)) → u ≡ 0 → Faults 0 at len (entry_fault ds before o)
+      unfolding entry_fault
+      entry-clean {at = at} {len = len} z hu q =
+          goes _ (once 0 0 0 _ 3 o.token is_declared refl) refl (λ _.
+          goes _ (once 0 0 0 _ 45 o.token (sym ha ∙ r) refl) refl (λ _.
+          goes _ (looked-word ds 1 text e.token is.token ht refl refl refl) z (λ _.
+          ends (places q (looked-word ds 2 text e.emits is.emits hu refl refl refl)))))
+        where
+          places : {A : Type 0} {f a l : ℕ} {m : Checked A} → f ≡ 0 → Faults f a l m → Faults 0 at len m
+          places y (clean x) = clean refl
+          places y (faulty x n p l) = absurd (n (sym x ∙ y))
 
 -- an entry that is apart from the marks
 pub apart-entry : (ds : List Decl) {text rows : List ℕ} {n from v : ℕ} {marks : List ℕ} {bs : List Operator} {o : Operator} {ws₁ : List Word} {e : Entry} {r : Bool} → EntryIs text from o ws₁ e

@@ -1,6 +1,9 @@
 -- The parts of a check of the declarations, and what its answer tells.
 use Rattle.std.specs.Prelude.{Bool, ◌||◌, List, [], ◌∷◌, ◌++◌, ◌≡◌, ℕ, length}
+use Rattle.std.specs.Prelude.{Result, Ok, Err}
 use Rattle.base.specs.Common.{given}
+use Rattle.base.specs.Faults.{fault_number}
+use Rattle.base.specs.declared.Refusal.{Refusal}
 use Rattle.declarations.specs.Decls.{Decl, knowns_in, index_of, repeats_in, clashes_in, optional_in}
 use Rattle.names.specs.Known.{Checked, good, wrong, ◌>>=◌, fault_if, Names, find, optional_type}
 use Rattle.names.specs.Understand.{taken}
@@ -11,6 +14,24 @@ use Rattle.words.specs.Words.{Word}
 pub data Faults {A : Type 0} (fault at len : ℕ) : Checked A → Type 0 where
   clean : {a : A} → fault ≡ 0 → Faults fault at len (good a)
   faulty : {n : ℕ} {w : Word} → fault ≡ n → (n ≡ 0 → ⊥) → at ≡ w.start → len ≡ length w.text → Faults fault at len (wrong n w)
+
+-- a result in numbers: 0, or the fault's number; the place and the length of its word
+
+abbrev pub fault_of : {A : Type 0} → Result A Refusal → ℕ
+fault_of (Ok a) = 0
+fault_of (Err r) = fault_number r.fault
+
+abbrev pub at_of : {A : Type 0} → Result A Refusal → ℕ
+at_of (Ok a) = 0
+at_of (Err r) = r.at
+
+abbrev pub len_of : {A : Type 0} → Result A Refusal → ℕ
+len_of (Ok a) = 0
+len_of (Err r) = r.len
+
+-- the result r tells what a check gives
+abbrev pub Refuses : {A B : Type 0} → Result B Refusal → Checked A → Type 0
+Refuses r m = Faults (fault_of r) (at_of r) (len_of r) m
 
 -- an input token again
 abbrev pub input_again : Decl → List Decl → Bool

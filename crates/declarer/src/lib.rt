@@ -4,6 +4,7 @@
 ghost use Rattle.std.specs.Prelude.{◌≡◌, true, false, ◌&&◌, ◌||◌, List, [], ℕ, ◌+◌, ◌-◌, ◌*◌, ◌<◌, ◌≤◌, eqb, length, take};
 ghost use Rattle.std.proofs.Math.Option.{Option};
 ghost use Rattle.base.specs.Common.{given};
+ghost use Rattle.base.specs.Faults.{fault_number};
 ghost use Rattle.names.specs.Known.{fault_if, find};
 ghost use Rattle.names.specs.Declare.{spelled, differ};
 ghost use Rattle.declarations.specs.Decls.{knowns_in, index_of, repeats_in, clashes_in, entry_again, optional_in, operation_fault, operators_fault, decl_fault, decl_faults, EntriesAt};
@@ -14,10 +15,10 @@ ghost use Rattle.symbols.specs.Index.{Kept};
 ghost use Rattle.symbols.specs.Rows.{option_of, decl_at, held, held_from};
 ghost use Rattle.symbols.specs.Search.{part, Tells};
 ghost use Rattle.words.specs.Words.{Word, words_at};
-ghost use Rattle.declarer.specs.Faults.{Faults, input_again, both_again, operation_again, types_in, line_again, line_fault, line_faults};
+ghost use Rattle.declarer.specs.Faults.{Refuses, fault_of, at_of, len_of, input_again, both_again, operation_again, types_in, line_again, line_fault, line_faults};
 ghost use Rattle.declarer.specs.Operators.{same_value, against, entry_fault, entries_fault, slot_from, side_slot, Apart, MarkedAs, MarksKept};
 
-use base::number;
+use base::{Refusal, number};
 use maker::{Entry, entries_at, read_entry};
 use scanner::{WordAt, next_word};
 use symbols::{
@@ -31,8 +32,8 @@ const MARKS: usize = 545;
 
 const SIDES: usize = 513;
 
-// A fault with the place and the length of its word, or 0.
-#[derive(Clone, Copy)]
+// What `partnames::settle` tells: a fault's number with the place and the length of its word, or 0.
+#[derive(Clone, Copy, Debug, PartialEq, Eq)]
 pub struct Fault {
     pub fault: u16,
     pub at: usize,
@@ -93,13 +94,9 @@ fn repeats(text: &[u8], rows: &[u16], i: usize, class: usize) -> bool
     requires { Kept text.now rows.now i }
     ensures { result ≡ repeats_in class (decl_at text.now rows.now i) (held text.now rows.now i) }
 {
-    if name_known(text, rows, i, class) {
-        return true;
-    }
-    if string_known(text, rows, i, class) {
-        return true;
-    }
-    has_value(rows, i, class, number(rows, ROW * i + VALUE))
+    name_known(text, rows, i, class)
+        || string_known(text, rows, i, class)
+        || has_value(rows, i, class, number(rows, ROW * i + VALUE))
 }
 
 // An operation has its name before it.
@@ -115,10 +112,7 @@ fn input_again(text: &[u8], rows: &[u16], i: usize) -> bool
     requires { Kept text.now rows.now i }
     ensures { result ≡ input_again (decl_at text.now rows.now i) (held text.now rows.now i) }
 {
-    if repeats(text, rows, i, INPUT) {
-        return true;
-    }
-    clashes(text, rows, i)
+    repeats(text, rows, i, INPUT) || clashes(text, rows, i)
 }
 
 // A token of input and output again.
@@ -126,13 +120,7 @@ fn both_again(text: &[u8], rows: &[u16], i: usize) -> bool
     requires { Kept text.now rows.now i }
     ensures { result ≡ both_again (decl_at text.now rows.now i) (held text.now rows.now i) }
 {
-    if repeats(text, rows, i, INPUT) {
-        return true;
-    }
-    if repeats(text, rows, i, OUTPUT) {
-        return true;
-    }
-    clashes(text, rows, i)
+    repeats(text, rows, i, INPUT) || repeats(text, rows, i, OUTPUT) || clashes(text, rows, i)
 }
 
 // An entry again, by its class.
@@ -155,30 +143,23 @@ fn operation_again(text: &[u8], rows: &[u16], i: usize) -> bool
     requires { Kept text.now rows.now i }
     ensures { result ≡ operation_again (decl_at text.now rows.now i) (held text.now rows.now i) }
 {
-    if name_taken(text, rows, i, OPERATION) {
-        return true;
-    }
-    name_known(text, rows, i, INPUT)
+    name_taken(text, rows, i, OPERATION) || name_known(text, rows, i, INPUT)
 }
 
 // The fault 4 of declaration i where it is there again.
-fn fault_if(text: &[u8], rows: &[u16], i: usize, again: bool) -> Fault
+fn fault_if(text: &[u8], rows: &[u16], i: usize, again: bool) -> Result<(), Refusal>
     requires { i ≤ 512 }
-    ensures { Faults result.fault result.at result.len (fault_if again 4 (decl_at text.now rows.now i).name) }
+    ensures { Refuses result (fault_if again 4 (decl_at text.now rows.now i).name) }
 {
     if again {
         let at = number(rows, ROW * i + NAME_START);
-        return Fault {
-            fault: base::REPEATED,
+        return Err(Refusal {
+            fault: base::Fault::Repeated,
             at,
             len: part_len(text, at, number(rows, ROW * i + NAME_LEN)),
-        };
+        });
     }
-    Fault {
-        fault: 0,
-        at: 0,
-        len: 0,
-    }
+    Ok(())
 }
 
 // The fault of a type that may be there, among the first `before` declarations.
@@ -189,36 +170,27 @@ fn optional_fault(
     before: usize,
     start: usize,
     len: usize,
-) -> Fault
+) -> Result<(), Refusal>
     requires { Kept text.now rows.now n × (before ≤ n) }
-    ensures { (kind : ℕ) → Faults result.fault result.at result.len (optional_in (held text.now rows.now n) (held text.now rows.now before) (option_of text.now kind start len)) }
+    ensures { (kind : ℕ) → Refuses result (optional_in (held text.now rows.now n) (held text.now rows.now before) (option_of text.now kind start len)) }
 {
     if len == 0 {
-        return Fault {
-            fault: 0,
-            at: 0,
-            len: 0,
-        };
+        return Ok(());
     }
-    let t = type_of(text, rows, n, before, start, len);
-    if t.fault == 0 {
-        return Fault {
-            fault: 0,
-            at: 0,
-            len: 0,
-        };
-    }
-    Fault {
-        fault: t.fault,
-        at: start,
-        len: part_len(text, start, len),
+    match type_of(text, rows, n, before, start, len) {
+        Ok(_) => Ok(()),
+        Err(fault) => Err(Refusal {
+            fault,
+            at: start,
+            len: part_len(text, start, len),
+        }),
     }
 }
 
 // The fault of the type that declaration i gives, where it gives one. `types_fault` asks in place: through this function the device's code would be longer.
-fn given_fault(text: &[u8], rows: &[u16], n: usize, i: usize) -> Fault
+fn given_fault(text: &[u8], rows: &[u16], n: usize, i: usize) -> Result<(), Refusal>
     requires { Kept text.now rows.now n × (i ≤ n) }
-    ensures { Faults result.fault result.at result.len (optional_in (held text.now rows.now n) (held text.now rows.now i) (decl_at text.now rows.now i).third) }
+    ensures { Refuses result (optional_in (held text.now rows.now n) (held text.now rows.now i) (decl_at text.now rows.now i).third) }
 {
     optional_fault(
         text,
@@ -231,21 +203,18 @@ fn given_fault(text: &[u8], rows: &[u16], n: usize, i: usize) -> Fault
 }
 
 // The fault of the types that an operation takes and gives.
-fn types_fault(text: &[u8], rows: &[u16], n: usize, i: usize) -> Fault
+fn types_fault(text: &[u8], rows: &[u16], n: usize, i: usize) -> Result<(), Refusal>
     requires { Kept text.now rows.now n × (i ≤ n) }
-    ensures { Faults result.fault result.at result.len (types_in (held text.now rows.now n) (held text.now rows.now i) (decl_at text.now rows.now i)) }
+    ensures { Refuses result (types_in (held text.now rows.now n) (held text.now rows.now i) (decl_at text.now rows.now i)) }
 {
-    let f = optional_fault(
+    optional_fault(
         text,
         rows,
         n,
         i,
         number(rows, ROW * i + SECOND_START),
         number(rows, ROW * i + SECOND_LEN),
-    );
-    if f.fault != 0 {
-        return f;
-    }
+    )?;
     optional_fault(
         text,
         rows,
@@ -256,14 +225,11 @@ fn types_fault(text: &[u8], rows: &[u16], n: usize, i: usize) -> Fault
     )
 }
 
-fn operation_fault(text: &[u8], rows: &[u16], n: usize, i: usize) -> Fault
+fn operation_fault(text: &[u8], rows: &[u16], n: usize, i: usize) -> Result<(), Refusal>
     requires { Kept text.now rows.now n × (i ≤ n) }
-    ensures { Faults result.fault result.at result.len (operation_fault (held text.now rows.now n) (held text.now rows.now i) (decl_at text.now rows.now i)) }
+    ensures { Refuses result (operation_fault (held text.now rows.now n) (held text.now rows.now i) (decl_at text.now rows.now i)) }
 {
-    let f = fault_if(text, rows, i, operation_again(text, rows, i));
-    if f.fault != 0 {
-        return f;
-    }
+    fault_if(text, rows, i, operation_again(text, rows, i))?;
     types_fault(text, rows, n, i)
 }
 
@@ -272,20 +238,14 @@ fn operation_fault(text: &[u8], rows: &[u16], n: usize, i: usize) -> Fault
 fn differ(a: bool, b: bool) -> bool
     ensures { result ≡ differ a b }
 {
-    if a {
-        return !b;
-    }
-    b
+    a != b
 }
 
 // The entry b has the other side of e's level.
 fn other_side(e: Entry, b: Entry) -> bool
     ensures { result ≡ (eqb e.level b.level && differ e.right b.right) }
 {
-    if e.level != b.level {
-        return false;
-    }
-    differ(e.right, b.right)
+    e.level == b.level && differ(e.right, b.right)
 }
 
 // The entry b has the token of value v, which is none where it is 65,536.
@@ -296,7 +256,7 @@ fn has_token(text: &[u8], rows: &[u16], n: usize, v: usize, b: Entry) -> bool
     if v == symbols::NONE {
         return false;
     }
-    v == find_value(text, rows, n, INPUT, b.token.start, b.token.len)
+    Some(v) == find_value(text, rows, n, INPUT, b.token.start, b.token.len)
 }
 
 // The entry b has the other side of e's level, or its token, which has the value v.
@@ -304,10 +264,7 @@ fn against_one(text: &[u8], rows: &[u16], n: usize, v: usize, e: Entry, b: Entry
     requires { Kept text.now rows.now n }
     ensures { (x : Option ℕ) → Tells v x → result ≡ ((eqb e.level b.level && differ e.right b.right) || same_value x (find (part text.now b.token.start b.token.len) (knowns_in 1 (held text.now rows.now n)))) }
 {
-    if other_side(e, b) {
-        return true;
-    }
-    has_token(text, rows, n, v, b)
+    other_side(e, b) || has_token(text, rows, n, v, b)
 }
 
 // One of the first `count` entries at the place `at` has the other side of e's level, or its token.
@@ -316,7 +273,7 @@ fn against(text: &[u8], rows: &[u16], n: usize, at: usize, count: usize, e: Entr
     ensures { (es : List Operator) (ws' : List Word) → OperatorsIn (words_at text.now at) ws' es → count < length es → (from : ℕ) (o : Operator) (ws₁ : List Word) → EntryIs text.now from o ws₁ e
         → result ≡ against (held text.now rows.now n) (find o.token.text (knowns_in 1 (held text.now rows.now n))) o (take count es) }
 {
-    let v = find_value(text, rows, n, INPUT, e.token.start, e.token.len);
+    let v = find_value(text, rows, n, INPUT, e.token.start, e.token.len).unwrap_or(symbols::NONE);
     let mut i = at;
     let mut k: usize = 0;
     while k < count {
@@ -336,12 +293,10 @@ fn slot_of(rows: &[u16], n: usize, v: usize) -> usize
     ensures same { result ≡ slot_from rows.now v 0 n }
     ensures low { result ≤ 512 }
 {
-    let mut i: usize = 0;
-    while i < n {
+    for i in 0..n {
         if number(rows, ROW * i + VALUE) == v {
             return i;
         }
-        i += 1;
     }
     n
 }
@@ -412,14 +367,20 @@ fn against_unless(
 }
 
 // The fault of a word of an entry.
-fn word_fault(text: &[u8], fault: u16, w: WordAt) -> Fault
-    ensures { (result.fault ≡ fault) × (result.at ≡ w.start) × (result.len ≡ length (part text.now w.start w.len)) }
+fn word_fault(text: &[u8], fault: base::Fault, w: WordAt) -> Result<(), Refusal>
+    ensures { (fault_of result ≡ fault_number fault) × (at_of result ≡ w.start) × (len_of result ≡ length (part text.now w.start w.len)) }
 {
-    Fault {
+    Err(Refusal {
         fault,
         at: w.start,
         len: part_len(text, w.start, w.len),
-    }
+    })
+}
+
+fn is_undeclared(fault: base::Fault) -> bool
+    ensures { result ≡ eqb (fault_number fault) 3 }
+{
+    fault == base::Fault::Undeclared
 }
 
 // The fault of the entry e behind `count` others at the place `at`, from which it may be known to be apart.
@@ -431,50 +392,50 @@ fn entry_fault(
     count: usize,
     e: Entry,
     apart: bool,
-) -> Fault
+) -> Result<(), Refusal>
     requires { Kept text.now rows.now n × (at ≤ length text.now) }
     ensures { (es : List Operator) (ws' : List Word) → OperatorsIn (words_at text.now at) ws' es → count < length es → (from : ℕ) (o : Operator) (ws₁ : List Word) → EntryIs text.now from o ws₁ e
         → (apart ≡ true → against (held text.now rows.now n) (find o.token.text (knowns_in 1 (held text.now rows.now n))) o (take count es) ≡ false)
-        → Faults result.fault result.at result.len (entry_fault (held text.now rows.now n) (take count es) o) }
+        → Refuses result (entry_fault (held text.now rows.now n) (take count es) o) }
 {
     let w = e.token;
-    let t = value_of(text, rows, n, INPUT, w.start, w.len);
-    if t.fault == base::UNDECLARED {
-        return word_fault(text, base::UNDECLARED, w);
+    if let Err(fault) = value_of(text, rows, n, INPUT, w.start, w.len) {
+        if is_undeclared(fault) {
+            return word_fault(text, fault, w);
+        }
+        if against_unless(text, rows, n, at, count, e, apart) {
+            return word_fault(text, base::Fault::Contradicts, w);
+        }
+        return word_fault(text, fault, w);
     }
     if against_unless(text, rows, n, at, count, e, apart) {
-        return word_fault(text, base::CONTRADICTS, w);
+        return word_fault(text, base::Fault::Contradicts, w);
     }
-    if t.fault != 0 {
-        return word_fault(text, t.fault, w);
+    match value_of(text, rows, n, OUTPUT, e.emits.start, e.emits.len) {
+        Ok(_) => Ok(()),
+        Err(fault) => word_fault(text, fault, e.emits),
     }
-    let o = value_of(text, rows, n, OUTPUT, e.emits.start, e.emits.len);
-    word_fault(text, o.fault, e.emits)
 }
 
 // The first fault of the entries at the place `at`.
-fn entries_fault(text: &[u8], rows: &[u16], n: usize, at: usize) -> Fault
+fn entries_fault(text: &[u8], rows: &[u16], n: usize, at: usize) -> Result<(), Refusal>
     requires { Kept text.now rows.now n × (at ≤ length text.now) }
-    ensures { (es : List Operator) (ws' : List Word) → OperatorsIn (words_at text.now at) ws' es → Faults result.fault result.at result.len (entries_fault (held text.now rows.now n) [] es) }
+    ensures { (es : List Operator) (ws' : List Word) → OperatorsIn (words_at text.now at) ws' es → Refuses result (entries_fault (held text.now rows.now n) [] es) }
 {
     let mut marks = [0u8; MARKS];
     let mut i = at;
     let mut count: usize = 0;
     loop {
         let e = read_entry(text, i);
-        let v = find_value(text, rows, n, INPUT, e.token.start, e.token.len);
+        let v = find_value(text, rows, n, INPUT, e.token.start, e.token.len).unwrap_or(
+            symbols::NONE,
+        );
         let apart = is_apart(rows, n, &marks, v, e.level, e.right);
-        let f = entry_fault(text, rows, n, at, count, e, apart);
-        if f.fault != 0 {
-            return f;
-        }
+        entry_fault(text, rows, n, at, count, e, apart)?;
         let next = e.emits.next;
         let w = next_word(text, next);
-        if w.kind == words::SEMICOLON {
-            return f;
-        }
-        if next <= i {
-            return f;
+        if w.kind == words::SEMICOLON || next <= i {
+            return Ok(());
         }
         mark(rows, n, &mut marks, v, e.level, e.right);
         i = next;
@@ -482,23 +443,20 @@ fn entries_fault(text: &[u8], rows: &[u16], n: usize, at: usize) -> Fault
     }
 }
 
-fn operators_fault(text: &[u8], rows: &[u16], n: usize, i: usize) -> Fault
+fn operators_fault(text: &[u8], rows: &[u16], n: usize, i: usize) -> Result<(), Refusal>
     requires { Kept text.now rows.now n × (i < n) }
     ensures { (es : List Operator) (ws' : List Word) → OperatorsIn (words_at text.now (decl_at text.now rows.now i).value) ws' es
-        → Faults result.fault result.at result.len (operators_fault (held text.now rows.now n) (held text.now rows.now i) es (decl_at text.now rows.now i)) }
+        → Refuses result (operators_fault (held text.now rows.now n) (held text.now rows.now i) es (decl_at text.now rows.now i)) }
 {
-    let f = fault_if(text, rows, i, name_taken(text, rows, i, OPERATORS));
-    if f.fault != 0 {
-        return f;
-    }
+    fault_if(text, rows, i, name_taken(text, rows, i, OPERATORS))?;
     entries_fault(text, rows, n, entries_at(text, rows, i))
 }
 
 // The fault of declaration i.
-fn decl_fault(text: &[u8], rows: &[u16], n: usize, i: usize) -> Fault
+fn decl_fault(text: &[u8], rows: &[u16], n: usize, i: usize) -> Result<(), Refusal>
     requires { Kept text.now rows.now n × (i < n) }
     ensures { (es : List Operator) (ws' : List Word) → ((decl_at text.now rows.now i).class ≡ 600 → OperatorsIn (words_at text.now (decl_at text.now rows.now i).value) ws' es)
-        → Faults result.fault result.at result.len (decl_fault (held text.now rows.now n) (held text.now rows.now i) es (decl_at text.now rows.now i)) }
+        → Refuses result (decl_fault (held text.now rows.now n) (held text.now rows.now i) es (decl_at text.now rows.now i)) }
 {
     let class = number(rows, ROW * i);
     if class == TYPE {
@@ -517,24 +475,15 @@ fn decl_fault(text: &[u8], rows: &[u16], n: usize, i: usize) -> Fault
 }
 
 // The first fault of the first n declarations, for all entries that stand at their places.
-pub fn check_declarations(text: &[u8], rows: &[u16], n: usize) -> Fault
+pub fn check_declarations(text: &[u8], rows: &[u16], n: usize) -> Result<(), Refusal>
     requires { Kept text.now rows.now n }
     ensures { (entries : ℕ → List Operator) → EntriesAt text.now (held text.now rows.now n) entries
-        → Faults result.fault result.at result.len (decl_faults (held text.now rows.now n) entries [] (held text.now rows.now n)) }
+        → Refuses result (decl_faults (held text.now rows.now n) entries [] (held text.now rows.now n)) }
 {
-    let mut i = 0;
-    while i < n {
-        let f = decl_fault(text, rows, n, i);
-        if f.fault != 0 {
-            return f;
-        }
-        i += 1;
+    for i in 0..n {
+        decl_fault(text, rows, n, i)?;
     }
-    Fault {
-        fault: 0,
-        at: 0,
-        len: 0,
-    }
+    Ok(())
 }
 
 // The list of a common part: its lines stand in rows of rules behind those of the sections.
@@ -544,40 +493,31 @@ fn line_again(text: &[u8], rows: &[u16], i: usize) -> bool
     requires { Kept text.now rows.now i }
     ensures { result ≡ line_again (decl_at text.now rows.now i) (held text.now rows.now i) }
 {
-    if name_taken(text, rows, i, OPERATION) {
-        return true;
-    }
-    name_taken(text, rows, i, RULE)
+    name_taken(text, rows, i, OPERATION) || name_taken(text, rows, i, RULE)
 }
 
 // The fault of the line that is declaration i.
-fn line_fault(text: &[u8], rows: &[u16], n: usize, i: usize) -> Fault
+fn line_fault(text: &[u8], rows: &[u16], n: usize, i: usize) -> Result<(), Refusal>
     requires { Kept text.now rows.now n × (i ≤ n) }
-    ensures { Faults result.fault result.at result.len (line_fault (held text.now rows.now n) (held text.now rows.now i) (decl_at text.now rows.now i)) }
+    ensures { Refuses result (line_fault (held text.now rows.now n) (held text.now rows.now i) (decl_at text.now rows.now i)) }
 {
-    let f = fault_if(text, rows, i, line_again(text, rows, i));
-    if f.fault != 0 {
-        return f;
-    }
+    fault_if(text, rows, i, line_again(text, rows, i))?;
     given_fault(text, rows, n, i)
 }
 
 // The first fault of the lines that are the declarations from `first` on, up to `to`.
-pub fn check_lines(text: &[u8], rows: &[u16], n: usize, first: usize, to: usize) -> Fault
+pub fn check_lines(
+    text: &[u8],
+    rows: &[u16],
+    n: usize,
+    first: usize,
+    to: usize,
+) -> Result<(), Refusal>
     requires { Kept text.now rows.now n × (first ≤ to) × (to ≤ n) }
-    ensures { Faults result.fault result.at result.len (line_faults (held text.now rows.now n) (held text.now rows.now first) (held_from text.now rows.now first (to - first))) }
+    ensures { Refuses result (line_faults (held text.now rows.now n) (held text.now rows.now first) (held_from text.now rows.now first (to - first))) }
 {
-    let mut i = first;
-    while i < to {
-        let f = line_fault(text, rows, n, i);
-        if f.fault != 0 {
-            return f;
-        }
-        i += 1;
+    for i in first..to {
+        line_fault(text, rows, n, i)?;
     }
-    Fault {
-        fault: 0,
-        at: 0,
-        len: 0,
-    }
+    Ok(())
 }

@@ -5,13 +5,15 @@ use mathlib.Core.Bool.{Bool, true, false, cond}
 use mathlib.Core.List.{List, [], ◌∷◌, ◌++◌}
 use native.Mathlib.Omega.{arith}
 use native.Mathlib.Nat.{add-zero, mod-eq_of_lt}
-use lib.ListN.{length, get_or, set, length-set}
+use lib.ListN.{length, get_or, set, take, drop, length-set, drop_of_length-le}
+use lib.Seq.{drop-cons}
+use native.Mathlib.Numerals.{add-one}
 use lib.Dec.{eqb, ltb}
 use borrow.Author.Tests.{eq-eqb, ne_eqb, lt-ltb, le-ltb}
 use Rattle.program.specs.Table.{place}
 use Rattle.chains.specs.Chain.{placed}
 use Rattle.emitter.specs.Words.{words, set_word, puts, cut}
-use Rattle.emitter.specs.Heads.{labels_in, labels_at, plain_of, sel_of, firsts, words_in, called, called_by}
+use Rattle.emitter.specs.Heads.{labels_in, labels_at, plain_of, sel_of, firsts, called, called_by, Few}
 use Rattle.emitter.specs.declared.Item.{Item}
 
 length-cond : (b : Bool) (s t : List ℕ) → length t ≡ length s → length (cond b t s) ≡ length s
@@ -49,29 +51,31 @@ puts-append s i (w ∷ xs) ys = puts-append (set_word s i w) (i + 1) xs ys ∙ a
 pub puts_then : (s t u : List ℕ) (i j : ℕ) (xs ys : List ℕ) → t ≡ puts s i xs → j ≡ i + length xs → u ≡ puts t j ys → u ≡ puts s i (xs ++ ys)
 puts_then s t u i j xs ys p q r = cc (puts-append s i xs ys)
 
-pub firsts-one : (n a b d : ℕ) → n ≡ 1 → firsts n a b d ≡ a ∷ []
+pub take-firsts : (n a b d : ℕ) → n ≤ 3 → take n (a ∷ b ∷ d ∷ []) ≡ firsts n a b d
 unfolding firsts
-firsts-one n a b d h = simp h
+take-firsts zero a b d h = refl
+take-firsts (suc zero) a b d h = refl
+take-firsts (suc (suc zero)) a b d h = refl
+take-firsts (suc (suc (suc zero))) a b d h = refl
+take-firsts (suc (suc (suc (suc n)))) a b d h = absurd (omega arith)
 
-pub firsts-two : (n a b d : ℕ) → n ≡ 2 → firsts n a b d ≡ a ∷ b ∷ []
-unfolding firsts
-firsts-two n a b d h = simp h
+pub puts-word : (s : List ℕ) (i w : ℕ) → set_word s i w ≡ puts s i (w ∷ [])
+unfolding puts
+puts-word s i w = refl
 
-pub firsts-zero : (n a b d : ℕ) → n ≡ 0 → firsts n a b d ≡ []
-unfolding firsts
-firsts-zero n a b d h = simp h
+-- one word more of a row
+pub puts-next : (s ws : List ℕ) (at i : ℕ) → i < length ws → puts (set_word s (at + i) (get_or ws i 0)) (at + (i + 1)) (drop (i + 1) ws) ≡ puts s (at + i) (drop i ws)
+unfolding puts
+puts-next s ws at i h =
+    let e : at + (i + 1) ≡ at + i + 1 = omega arith in
+    let d : drop i ws ≡ get_or ws i 0 ∷ drop (i + 1) ws = drop-cons ws i 0 h ∙ ap (λ (j : ℕ). get_or ws i 0 ∷ drop j ws) (sym (add-one i)) in
+    ap (λ (j : ℕ). puts (set_word s (at + i) (get_or ws i 0)) j (drop (i + 1) ws)) e ∙ sym (ap (λ (v : List ℕ). puts s (at + i) v) d)
 
-pub firsts-three : (n a b d : ℕ) → (n ≡ 0 → ⊥) → (n ≡ 1 → ⊥) → (n ≡ 2 → ⊥) → firsts n a b d ≡ a ∷ b ∷ d ∷ []
-unfolding firsts
-firsts-three n a b d g h k = simp (ne_eqb n 0 g, ne_eqb n 1 h, ne_eqb n 2 k)
+pub puts-last : (s ws : List ℕ) (at i : ℕ) → length ws ≤ i → puts s (at + i) (drop i ws) ≡ s
+unfolding puts
+puts-last s ws at i h = rw (drop_of_length-le ws {i = i} h) refl
 
 -- what holds of every plain action
-pub record Few (w : Item) : Type 0 where
-  pub cells : w.cells ≤ 2
-  pub some-cells : 0 < w.cells
-  pub count : length (words_in w) ≡ w.count
-  pub small : w.count ≤ 3
-
 few-cond : (b : Bool) (u v : Item) → Few u → Few v → Few (cond b u v)
 few-cond true u v p q = p
 few-cond false u v p q = q

@@ -20,12 +20,12 @@ use Rattle.chains.specs.Chain.{Chain, places, patched, newest, Waiting, At, Fixe
 use Rattle.chains.proofs.Lists.{at_in, at_split, Behind, at_some, places-append, length-patched, patched-at, patched-kept, known-waits, waits-ne, length-filled, length-knowns}
 use Rattle.chains.proofs.Grows.{chain-fill}
 use Rattle.chains.proofs.Solves.{length-marks_rule, length-marks_rules, length-solved, solved-known, solved-call, solved-rules}
-use Rattle.emitter.specs.Words.{words, puts, cut}
+use Rattle.emitter.specs.Words.{words, puts}
 use Rattle.emitter.specs.Heads.{anchor}
 use Rattle.emitter.specs.Stands.{IsAll}
 use Rattle.emitter.specs.Work.{Done, Emitted, Extended, ListDone, PatchDone}
 use Rattle.emitter.specs.Emitted.{CellsOf, sort_of, fits, emitted_words, emitted_bytes, fault_of, EmitDone, IsRules, rules_more, RuleDone, PlaceDone, RulesDone}
-use Rattle.emitter.proofs.Laws.{cut_small, length-puts}
+use Rattle.emitter.proofs.Laws.{length-puts}
 use Rattle.emitter.proofs.Bytes.{puts-eq, whole}
 use Rattle.emitter.proofs.Link.{program-stands}
 use Rattle.emitter.proofs.Emits.{emitted-join, emitted-known, emitted-close}
@@ -59,9 +59,9 @@ rule-done cs p old mid row new at slots more q l y n b e ws l' m h d u E w z =
     let k3 = length-knowns ws in
     subst (λ (i : List ℕ). Done (close outside (marks_all b.body) ++ knowns i) e old new at 0 slots more q l' 0) (sym E) (record { next = v.next; after = omega (arith, v.after); emitted = J })
 
-pub rule-return : (cs : List ℕ) (p : ℕ) (old mid row new : List ℕ) (at : ℕ) (slots more : List ℕ) (q l y sort : ℕ) → ListDone cs p old mid at 0 slots more q l y → PatchDone mid row y l 1 → new ≡ puts row l (cut 9 ∷ []) → sort ≡ 0 → RuleDone cs p old new at sort slots more q (l + 1)
+pub rule-return : (cs : List ℕ) (p : ℕ) (old mid row new : List ℕ) (at : ℕ) (slots more : List ℕ) (q l y sort : ℕ) → ListDone cs p old mid at 0 slots more q l y → PatchDone mid row y l 1 → new ≡ puts row l (9 ∷ []) → sort ≡ 0 → RuleDone cs p old new at sort slots more q (l + 1)
 unfolding RuleDone
-rule-return cs p old mid row new at slots more q l y sort d u w z n b e m h x = rule-done cs p old mid row new at slots more q l y n b e (9 ∷ []) (l + 1) m h d u (rule_end b.valued sort z x) (w ∙ ap (λ (i : ℕ). puts row l (i ∷ [])) (cut_small 9 (omega arith))) refl
+rule-return cs p old mid row new at slots more q l y sort d u w z n b e m h x = rule-done cs p old mid row new at slots more q l y n b e (9 ∷ []) (l + 1) m h d u (rule_end b.valued sort z x) w refl
 
 pub rule-none : (cs : List ℕ) (p : ℕ) (old mid row : List ℕ) (at : ℕ) (slots more : List ℕ) (q l y sort : ℕ) → ListDone cs p old mid at 0 slots more q l y → PatchDone mid row y l 1 → (sort ≡ 0 → ⊥) → RuleDone cs p old row at sort slots more q l
 unfolding RuleDone

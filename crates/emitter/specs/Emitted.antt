@@ -1,5 +1,5 @@
 -- What the emitter is for: the cells of a program become its table in the lent bytes, if it fits.
-use Rattle.std.specs.Prelude.{ℕ, ◌+◌, ◌*◌, ◌-◌, ◌<◌, ◌≤◌, ◌≡◌, Bool, false, ◌&&◌, List, [], ◌∷◌, ◌++◌, leb, length, get_or, drop, replicate, set, if◌then◌else◌}
+use Rattle.std.specs.Prelude.{ℕ, ◌+◌, ◌*◌, ◌-◌, ◌<◌, ◌≤◌, ◌≡◌, Bool, false, ◌&&◌, List, [], ◌∷◌, ◌++◌, leb, length, get_or, drop, replicate, set, if◌then◌else◌, Result, Ok, Err}
 use Rattle.base.specs.Tree.{plain, cycle, choice, done, ◌▸◌, nil, alternative, absent, otherwise}
 use Rattle.program.specs.Program.{Act, Acts, Alts, Other, Rule, rule_of, body_of}
 use Rattle.program.specs.Table.{size_rules, table}
@@ -12,6 +12,7 @@ use Rattle.chains.specs.Marks.{marks_rule}
 use Rattle.chains.specs.Chain.{placed}
 use Rattle.emitter.specs.Words.{words, puts}
 use Rattle.emitter.specs.Work.{Done, PatchDone}
+use Rattle.emitter.specs.declared.TooShort.{TooShort}
 
 -- every alternative has a label, and fewer than 192 ("64 labels a choice")
 unfoldable mutual
@@ -70,6 +71,15 @@ pub record EmitDone (prog : List Rule) (old new : List ℕ) (fault size : ℕ) :
 
 unfoldable pub Emits : List ℕ → List ℕ → ℕ → List ℕ → List ℕ → ℕ → ℕ → Type 0
 Emits cells sorts rules old new fault size = (prog : List Rule) → CellsOf cells sorts rules prog → EmitDone prog old new fault size
+
+-- the number and the size that a result stands for
+abbrev pub fault_in : Result ℕ TooShort → ℕ
+fault_in (Ok size) = 0
+fault_in (Err e) = 20
+
+abbrev pub size_in : Result ℕ TooShort → ℕ
+size_in (Ok size) = size
+size_in (Err e) = e.size
 
 -- Inside: rules one after the other, by places
 

@@ -1,9 +1,11 @@
 -- What a construct's first cell tells, and the words of a plain action or a selector.
-use Rattle.std.specs.Prelude.{ℕ, ◌+◌, ◌-◌, cond, List, [], ◌∷◌, eqb, ltb, length, get_or, set}
+use Rattle.std.specs.Prelude.{◌≡◌, ℕ, ◌+◌, ◌-◌, ◌<◌, ◌≤◌, cond, List, [], ◌∷◌, eqb, ltb, length, get_or, set}
 use Rattle.machine.specs.Bytes.{words_of}
 use Rattle.chains.specs.Chain.{placed}
 use Rattle.emitter.specs.Words.{cut}
 use Rattle.emitter.specs.declared.Item.{Item}
+use Rattle.emitter.specs.declared.Operand.{Operand}
+use Rattle.emitter.specs.declared.Operand.TheVariants.{Location, Distance}
 
 -- how many labels the alternative at a cell has, 0: it is none
 unfoldable pub labels_in : ℕ → ℕ
@@ -74,6 +76,17 @@ called_at cs p call slots place = called_by (get_or cs p 0) call slots (get_or c
 -- the next older word of a chain, 0: there is none
 unfoldable pub link_at : List ℕ → ℕ → ℕ
 link_at s i = cond (ltb (get_or (words_of s) i 0) i) (get_or (words_of s) i 0) 0
+
+-- what each item keeps to
+pub record Few (w : Item) : Type 0 where
+  pub cells : w.cells ≤ 2
+  pub some-cells : 0 < w.cells
+  pub count : length (words_in w) ≡ w.count
+  pub small : w.count ≤ 3
+
+abbrev pub operand_number : Operand → ℕ
+operand_number Location = 0
+operand_number Distance = 1
 
 -- what a jump's word counts from: k 0, the beginning; else the word itself
 unfoldable pub anchor : ℕ → ℕ → ℕ

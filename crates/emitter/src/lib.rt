@@ -2,21 +2,14 @@
 // Nothing is asked of the cells: on any cells each function ends and keeps to its bounds.
 #![tactic(auto)]
 
-ghost use Rattle.std.specs.Prelude.{◌≡◌, [], ◌∷◌, ℕ, ◌+◌, ◌*◌, ◌-◌, ◌<◌, ◌≤◌, length, get_or, replicate, set};
+ghost use Rattle.std.specs.Prelude.{◌≡◌, [], ◌∷◌, ℕ, ◌+◌, ◌*◌, ◌-◌, ◌<◌, ◌≤◌, ◌↔◌, IsTrue, length, get_or, replicate, set};
 ghost use Rattle.emitter.specs.Words.{words, set_word, puts, cut};
-ghost use Rattle.emitter.specs.Heads.{firsts, one, two, three, plain_of, plain_at, chooses, ins_of, sel_of, sel_at, labels_in, labels_at, start_of, called_by, called_at, link_at, anchor, behind};
+ghost use Rattle.emitter.specs.Heads.{words_in, one, two, three, plain_of, plain_at, chooses, ins_of, sel_of, sel_at, labels_in, labels_at, start_of, called_by, called_at, link_at, operand_number, anchor, behind, Few};
 ghost use Rattle.emitter.specs.Work.{Room, Moved, Passed, ItemDone, PatchDone, ListDone, ActDone, CycleDone, LabelsDone, TableDone, AltsDone, OtherDone, AbsentDone};
-ghost use Rattle.emitter.specs.Emitted.{Emits, RuleDone, PlaceDone, RulesDone, zeroed_bytes};
+ghost use Rattle.emitter.specs.Emitted.{Emits, RuleDone, PlaceDone, RulesDone, zeroed_bytes, fault_in, size_in};
 
-use base::{cell, least, wide};
+use base::cell;
 use cells::sort_at;
-
-// Numbers as words and answers are counted here.
-const END_CHOICE: usize = machine::END_CHOICE as usize;
-
-const RETURN: usize = machine::RETURN as usize;
-
-const TOO_SHORT: usize = base::TOO_SHORT as usize;
 
 // Writing words: past the last whole word nothing is written.
 
@@ -36,35 +29,21 @@ fn low(n: usize) -> u16
     (n % 65536) as u16
 }
 
-fn put_one(out: &mut [u8], at: usize, n: usize)
-    ensures { out.new ≡ puts out.old at (cut n ∷ []) }
+// Words one after the other.
+fn put_words(out: &mut [u8], at: usize, words: &[u16])
+    requires { at + length words.now < 4000000000 }
+    ensures { out.new ≡ puts out.old at words.now }
 {
-    put_word(out, at, low(n));
-}
-
-fn put_two(out: &mut [u8], at: usize, a: u16, b: u16)
-    requires { at < 2000000000 }
-    ensures { out.new ≡ puts out.old at (a ∷ b ∷ []) }
-{
-    put_word(out, at, a);
-    put_word(out, at + 1, b);
-}
-
-fn put_three(out: &mut [u8], at: usize, a: u16, b: u16, d: u16)
-    requires { at < 2000000000 }
-    ensures { out.new ≡ puts out.old at (a ∷ b ∷ d ∷ []) }
-{
-    put_word(out, at, a);
-    let next = at + 1;
-    put_word(out, next, b);
-    put_word(out, next + 1, d);
+    for (i, &word) in words.iter().enumerate() {
+        put_word(out, at + i, word);
+    }
 }
 
 // From a place up to another, 0 if that lies before.
 fn span(to: usize, from: usize) -> u16
     ensures { result ≡ cut (to - from) }
 {
-    if from < to { low(to - from) } else { 0 }
+    low(to.saturating_sub(from))
 }
 
 // An instruction or a label, and a distance.
@@ -72,11 +51,11 @@ fn put_span(out: &mut [u8], at: usize, a: u16, to: usize, from: usize)
     requires { at < 2000000000 }
     ensures { out.new ≡ puts out.old at (a ∷ cut (to - from) ∷ []) }
 {
-    put_two(out, at, a, span(to, from));
+    put_words(out, at, &[a, span(to, from)]);
 }
 
 // A place in the cells, a place in the table, and the newest open exit of the cycle around it, 0: none.
-#[derive(Clone, Copy)]
+#[derive(Clone, Copy, Debug, PartialEq, Eq)]
 pub struct Spot {
     pub p: usize,
     pub at: usize,
@@ -89,12 +68,13 @@ const PLACED: usize = 65536;
 fn slot(slots: &[usize], r: usize) -> usize
     ensures { result ≡ get_or slots.now r 0 }
 {
-    if r < slots.len() { slots[r] } else { 0 }
+    slots.get(r).copied().unwrap_or(0)
 }
 
 fn put_slot(slots: &mut [usize], r: usize, n: usize)
     ensures { slots.new ≡ set slots.old r n }
 {
+    // an index: of `get_mut` it is not known that the row stays where there is no slot
     if r < slots.len() {
         slots[r] = n;
     }
@@ -112,10 +92,8 @@ fn start_at(slots: &[usize], r: usize) -> u16
 fn call_at(slots: &mut [usize], k: u16, call: u16, r: usize, place: usize)
     ensures { slots.new ≡ called_by k call slots.old r place }
 {
-    if k == call {
-        if slot(slots, r) < PLACED {
-            put_slot(slots, r, place);
-        }
+    if k == call && slot(slots, r) < PLACED {
+        put_slot(slots, r, place);
     }
 }
 
@@ -123,35 +101,41 @@ fn call_at(slots: &mut [usize], k: u16, call: u16, r: usize, place: usize)
 fn older_at(out: &[u8], i: usize) -> usize
     ensures { (result ≡ link_at out.now i) × (result ≤ i) × (0 < i → result < i) }
 {
-    let w = wide(machine::word(out, i));
+    let w = usize::from(machine::word(out, i));
     if w < i { w } else { 0 }
 }
 
-// What a jump's word is to hold: the distance from it, or the location itself.
-const LOCATION: usize = 0;
+// What a jump's word is to hold: the location itself, or the distance from the word.
+#[derive(Clone, Copy, Debug, PartialEq, Eq)]
+pub enum Operand {
+    Location,
+    Distance,
+}
 
-const DISTANCE: usize = 1;
-
-fn anchor(k: usize, j: usize) -> usize
-    ensures { result ≡ anchor k j }
+fn anchor(operand: Operand, j: usize) -> usize
+    ensures { result ≡ anchor (operand_number operand) j }
 {
-    if k == LOCATION { 0 } else { j }
+    match operand {
+        Operand::Location => 0,
+        Operand::Distance => j,
+    }
 }
 
 // The target of the chain from `newest` on is known: each of its words gets its distance or location.
-fn patch(out: &mut [u8], newest: usize, to: usize, k: usize)
-    ensures { PatchDone out.old out.new newest to k }
+fn patch(out: &mut [u8], newest: usize, to: usize, operand: Operand)
+    ensures { PatchDone out.old out.new newest to (operand_number operand) }
 {
     let mut j = newest;
+    // no range: a word or a cell says where the next stands
     while 0 < j {
         let older = older_at(out, j);
-        put_word(out, j, span(to, anchor(k, j)));
+        put_word(out, j, span(to, anchor(operand, j)));
         j = older;
     }
 }
 
 // A plain action or a selector: how many cells it takes, and its words, at most three.
-#[derive(Clone, Copy)]
+#[derive(Clone, Copy, Debug, PartialEq, Eq)]
 pub struct Item {
     pub cells: usize,
     pub count: usize,
@@ -200,43 +184,45 @@ fn three(a: u16, b: u16, d: u16) -> Item
 fn plain_of(k: u16, v: u16, to: u16) -> Item
     ensures { result ≡ plain_of k v to }
 {
-    if k < cells::UPDATE {
-        if k == cells::ANY {
-            return one(k);
-        }
-        if k == cells::BACK {
-            return one(k);
-        }
-        if k == cells::CALL {
-            return two(k, to);
-        }
-        if k == cells::GIVE {
-            return three(k, v, machine::RETURN);
-        }
-        return two(k, v);
+    match k {
+        cells::ANY | cells::BACK => one(k),
+        cells::CALL => two(k, to),
+        cells::GIVE => three(k, v, machine::RETURN),
+        ..cells::UPDATE => two(k, v),
+        cells::UPDATE..cells::UPDATE_WITH => one(k),
+        _ => three(machine::SET_PARAMETER, v, k),
     }
-    if k < cells::UPDATE_WITH {
-        return one(k);
-    }
-    three(machine::SET_PARAMETER, v, k)
 }
 
-fn put_some(out: &mut [u8], at: usize, n: usize, a: u16, b: u16, d: u16)
-    requires { at < 2000000000 }
-    ensures { out.new ≡ puts out.old at (firsts n a b d) }
+fn put_item(out: &mut [u8], at: usize, item: Item)
+    requires { (at < 2000000000) × (item.count ≤ 3) }
+    ensures { out.new ≡ puts out.old at (words_in item) }
 {
-    if n == 0 {
-        return;
+    let words = [item.a, item.b, item.d];
+    put_words(out, at, &words[..item.count]);
+}
+
+// An item's words, and the place behind its cells. A call is of the rule that its second cell names.
+fn emit_item(
+    cells: &[u16],
+    slots: &mut [usize],
+    out: &mut [u8],
+    spot: Spot,
+    item: Item,
+    call: u16,
+) -> Spot
+    requires { Room cells.now spot.p spot.at × (spot.p < length cells.now) × Few item }
+    ensures item_done { ItemDone cells.now item spot.p spot.at out.old out.new result.p result.at }
+    ensures slots_after { (slots.new ≡ called_at cells.now spot.p call slots.old (spot.at + 1)) × (result.exit ≡ spot.exit) }
+{
+    put_item(out, spot.at, item);
+    let r = usize::from(cell(cells, spot.p + 1));
+    call_at(slots, cell(cells, spot.p), call, r, spot.at + 1);
+    Spot {
+        p: (spot.p + item.cells).min(cells.len()),
+        at: spot.at + item.count,
+        ..spot
     }
-    if n == 1 {
-        put_word(out, at, a);
-        return;
-    }
-    if n == 2 {
-        put_two(out, at, a, b);
-        return;
-    }
-    put_three(out, at, a, b, d);
 }
 
 fn emit_plain(
@@ -251,29 +237,24 @@ fn emit_plain(
     ensures item_done { ItemDone cells.now (plain_at cells.now slots.old p) p at out.old out.new result.p result.at }
     ensures slots_after { (slots.new ≡ called_at cells.now p 8 slots.old (at + 1)) × (result.exit ≡ x) }
 {
-    let k = cell(cells, p);
     let v = cell(cells, p + 1);
-    let r = wide(v);
-    let w = plain_of(k, v, start_at(slots, r));
-    put_some(out, at, w.count, w.a, w.b, w.d);
-    call_at(slots, k, cells::CALL, r, at + 1);
-    Spot {
-        p: least(p + w.cells, cells.len()),
-        at: at + w.count,
-        exit: x,
-    }
+    let item = plain_of(cell(cells, p), v, start_at(slots, usize::from(v)));
+    emit_item(
+        cells,
+        slots,
+        out,
+        Spot { p, at, exit: x },
+        item,
+        cells::CALL,
+    )
 }
 
 fn labels_in(k: u16) -> usize
     ensures { (result ≡ labels_in k) × (result < 192) }
 {
-    if k < cells::ALTERNATIVE {
-        return 0;
-    }
-    if k < cells::UPDATE {
-        wide(k - cells::ALTERNATIVE)
-    } else {
-        0
+    match k {
+        cells::ALTERNATIVE..cells::UPDATE => usize::from(k - cells::ALTERNATIVE),
+        _ => 0,
     }
 }
 
@@ -290,22 +271,18 @@ fn labels_at(cells: &[u16], p: usize) -> usize
 fn sel_of(k: u16, v: u16, to: u16) -> Item
     ensures { result ≡ sel_of k v to }
 {
-    if k == cells::BY_TOKEN {
-        return Item {
+    match k {
+        cells::BY_TOKEN => Item {
             cells: 1,
             count: 0,
             a: 0,
             b: 0,
             d: 0,
-        };
+        },
+        cells::BY_RULE => two(machine::CALL, to),
+        ..cells::ASK_WITH => one(k),
+        _ => three(machine::SET_PARAMETER, v, k),
     }
-    if k == cells::BY_RULE {
-        return two(machine::CALL, to);
-    }
-    if k < cells::ASK_WITH {
-        return one(k);
-    }
-    three(machine::SET_PARAMETER, v, k)
 }
 
 fn emit_sel(
@@ -320,17 +297,16 @@ fn emit_sel(
     ensures item_done { ItemDone cells.now (sel_at cells.now slots.old p) p at out.old out.new result.p result.at }
     ensures slots_after { (slots.new ≡ called_at cells.now p 11 slots.old (at + 1)) × (result.exit ≡ x) }
 {
-    let k = cell(cells, p);
     let v = cell(cells, p + 1);
-    let r = wide(v);
-    let w = sel_of(k, v, start_at(slots, r));
-    put_some(out, at, w.count, w.a, w.b, w.d);
-    call_at(slots, k, cells::BY_RULE, r, at + 1);
-    Spot {
-        p: least(p + w.cells, cells.len()),
-        at: at + w.count,
-        exit: x,
-    }
+    let item = sel_of(cell(cells, p), v, start_at(slots, usize::from(v)));
+    emit_item(
+        cells,
+        slots,
+        out,
+        Spot { p, at, exit: x },
+        item,
+        cells::BY_RULE,
+    )
 }
 
 // The choice table's entries of one alternative.
@@ -338,14 +314,9 @@ fn emit_labels(cells: &[u16], p: usize, j: usize, out: &mut [u8], at: usize, fro
     requires { (p < 2000000) × (j < 192) × (at < 1100000000) }
     ensures { LabelsDone cells.now p j out.old out.new at from }
 {
-    let mut q = p;
-    let mut l = at;
-    let mut left = j;
-    while 0 < left {
-        put_span(out, l, cell(cells, q), l + 1, from);
-        q = q + 1;
-        l = l + 2;
-        left = left - 1;
+    for i in 0..j {
+        let l = at + 2 * i;
+        put_span(out, l, cell(cells, p + i), l + 1, from);
     }
 }
 
@@ -357,12 +328,6 @@ fn behind(older: usize, from: usize) -> usize
     if older == 0 { from } else { older + 1 }
 }
 
-fn less(a: usize, b: usize) -> usize
-    ensures { result ≡ a - b }
-{
-    if b < a { a - b } else { 0 }
-}
-
 // The choice table's entries, the last alternative's first: the chain of ends leads from it to the first one. The word before an end has the cell
 // of its alternative, and gets its instruction.
 fn emit_table(cells: &[u16], out: &mut [u8], newest: usize, from: usize, end: usize)
@@ -371,28 +336,23 @@ fn emit_table(cells: &[u16], out: &mut [u8], newest: usize, from: usize, end: us
 {
     let mut j = newest;
     let mut l = end;
+    // no range: a word or a cell says where the next stands
     while 0 < j {
-        let head = wide(machine::word(out, j - 1));
+        let head = usize::from(machine::word(out, j - 1));
         let n = labels_at(cells, head);
         let older = older_at(out, j);
-        l = less(l, 2 * n);
+        l = l.saturating_sub(2 * n);
         emit_labels(cells, head + 1, n, out, l, behind(older, from));
         put_word(out, j - 1, machine::JUMP_FORWARD);
         j = older;
     }
 }
 
-// 1 for a choice.
-fn chooses(k: u16) -> usize
-    ensures { result ≡ chooses k }
+// A choice begins with such a cell.
+fn chooses(k: u16) -> bool
+    ensures { IsTrue result ↔ (chooses k ≡ 1) }
 {
-    if k == cells::BY_TOKEN {
-        return 1;
-    }
-    if k == cells::BY_RULE {
-        return 1;
-    }
-    if k < cells::ASK { 0 } else { 1 }
+    k == cells::BY_TOKEN || k == cells::BY_RULE || cells::ASK <= k
 }
 
 fn ins_of(k: u16) -> u16
@@ -406,7 +366,7 @@ fn ins_of(k: u16) -> u16
 }
 
 // Where alternatives begin: their first label, and their place in the table.
-#[derive(Clone, Copy)]
+#[derive(Clone, Copy, Debug, PartialEq, Eq)]
 pub struct Opening {
     pub label: u16,
     pub from: usize,
@@ -418,22 +378,22 @@ fn emit_absent(cells: &[u16], p: usize, out: &mut [u8], at: usize, x: usize, fir
     ensures absent_done { (get_or cells.now p 0 ≡ 13 → ⊥) → AbsentDone cells.now p out.old out.new at first.label first.from result.p result.at }
     ensures moved { Moved cells.now p (at + 4) result.p result.at × (result.exit ≡ x) }
 {
-    let next = least(p + 1, cells.len());
-    let k = cell(cells, p);
-    if k == cells::NO_TOKEN {
-        put_two(out, at, machine::INPUT, first.label);
+    let next = (p + 1).min(cells.len());
+    if cell(cells, p) == cells::NO_TOKEN {
+        put_words(out, at, &[machine::INPUT, first.label]);
         put_span(out, at + 2, machine::JUMP_BACK, at + 3, first.from);
-        return Spot {
+        Spot {
             p: next,
             at: at + 4,
             exit: x,
-        };
-    }
-    put_one(out, at, END_CHOICE);
-    Spot {
-        p: next,
-        at: at + 1,
-        exit: x,
+        }
+    } else {
+        put_word(out, at, machine::END_CHOICE);
+        Spot {
+            p: next,
+            at: at + 1,
+            exit: x,
+        }
     }
 }
 
@@ -454,6 +414,7 @@ fn emit_list(
     let mut l = at;
     let mut e = x;
     let mut k = cell(cells, q);
+    // no range: a word or a cell says where the next stands
     while k != cells::END {
         let s = emit_act(cells, slots, q, out, l, e);
         q = s.p;
@@ -462,7 +423,7 @@ fn emit_list(
         k = cell(cells, q);
     }
     Spot {
-        p: least(q + 1, cells.len()),
+        p: (q + 1).min(cells.len()),
         at: l,
         exit: e,
     }
@@ -483,7 +444,7 @@ fn emit_act(
 {
     let k = cell(cells, p);
     if k == cells::EXIT {
-        put_two(out, at, machine::JUMP_FORWARD, low(x));
+        put_words(out, at, &[machine::JUMP_FORWARD, low(x)]);
         return Spot {
             p: p + 1,
             at: at + 2,
@@ -493,7 +454,7 @@ fn emit_act(
     if k == cells::CYCLE {
         return emit_cycle(cells, slots, p, out, at, x);
     }
-    if chooses(k) == 1 {
+    if chooses(k) {
         return emit_choice(cells, slots, p, out, at, x);
     }
     emit_plain(cells, slots, p, out, at, x)
@@ -516,7 +477,7 @@ fn emit_cycle(
     let s = emit_list(cells, slots, p + 1, out, at, 0);
     let end = s.at + 2;
     put_span(out, s.at, machine::JUMP_BACK, s.at + 1, at);
-    patch(out, s.exit, end, DISTANCE);
+    patch(out, s.exit, end, Operand::Distance);
     Spot {
         p: s.p,
         at: end,
@@ -525,7 +486,7 @@ fn emit_cycle(
 }
 
 // Alternatives: where they end, the newest open exit and end, their labels.
-#[derive(Clone, Copy)]
+#[derive(Clone, Copy, Debug, PartialEq, Eq)]
 pub struct Row {
     pub p: usize,
     pub at: usize,
@@ -554,11 +515,12 @@ fn emit_alts(
     let mut end = 0;
     let mut n = 0;
     let mut j = labels_at(cells, q);
+    // no range: a word or a cell says where the next stands
     while 0 < j {
         let s = emit_list(cells, slots, q + 1 + j, out, l, e);
-        put_two(out, s.at, low(q), low(end));
+        put_words(out, s.at, &[low(q), low(end)]);
         end = s.at + 1;
-        n = n + j;
+        n += j;
         q = s.p;
         l = s.at + 2;
         e = s.exit;
@@ -568,7 +530,7 @@ fn emit_alts(
         p: q,
         at: l,
         exit: e,
-        end: end,
+        end,
         labels: n,
     }
 }
@@ -588,9 +550,10 @@ fn emit_other(
     ensures moved { Moved cells.now p (at + 4) result.p result.at × (result.exit < 2000000000) }
 {
     if cell(cells, p) == cells::OTHERWISE {
-        return emit_list(cells, slots, p + 1, out, at, x);
+        emit_list(cells, slots, p + 1, out, at, x)
+    } else {
+        emit_absent(cells, p, out, at, x, first)
     }
-    emit_absent(cells, p, out, at, x, first)
 }
 
 #[cycle(emit_act_emit_alts_emit_choice_emit_cycle_emit_list_emit_other)]
@@ -611,19 +574,19 @@ fn emit_choice(
     let first = a.p;
     let here = a.at;
     let from = here + 2;
-    put_two(out, here, ins, 0);
+    put_words(out, here, &[ins, 0]);
     let z = emit_alts(cells, slots, first, out, from, x);
     let table = z.at;
     let rest = table + 1 + 2 * z.labels;
-    patch(out, here + 1, table, DISTANCE);
-    put_one(out, table, z.labels);
+    patch(out, here + 1, table, Operand::Distance);
+    put_word(out, table, low(z.labels));
     emit_table(cells, out, z.end, from, rest);
     let opening = Opening {
         label: cell(cells, first + 1),
         from,
     };
     let s = emit_other(cells, slots, z.p, out, rest, z.exit, opening);
-    patch(out, z.end, s.at, DISTANCE);
+    patch(out, z.end, s.at, Operand::Distance);
     s
 }
 
@@ -631,11 +594,8 @@ fn emit_choice(
 fn zero_from(out: &mut [u8], at: usize)
     ensures { out.new ≡ puts out.old at (replicate (words out.old - at) 0) }
 {
-    let n = out.len() / 2;
-    let mut i = at;
-    while i < n {
+    for i in at..out.len() / 2 {
         put_word(out, i, 0);
-        i += 1;
     }
 }
 
@@ -662,16 +622,13 @@ fn emit_rule(
     ensures moved { Moved cells.now p (at + 1) result.p result.at }
 {
     let s = emit_list(cells, slots, p, out, at, 0);
-    patch(out, s.exit, s.at, DISTANCE);
+    patch(out, s.exit, s.at, Operand::Distance);
     if sort == cells::PROCEDURE_RULE {
-        put_one(out, s.at, RETURN);
-        return Spot {
-            p: s.p,
-            at: s.at + 1,
-            exit: 0,
-        };
+        put_word(out, s.at, machine::RETURN);
+        Spot { at: s.at + 1, ..s }
+    } else {
+        s
     }
-    s
 }
 
 // Rule r begins: the calls that wait for it get its location, and so does its slot.
@@ -679,7 +636,7 @@ fn place_rule(slots: &mut [usize], r: usize, out: &mut [u8], at: usize)
     requires { at < 2000000000 }
     ensures { PlaceDone slots.old slots.new r out.old out.new at }
 {
-    patch(out, slot(slots, r), at + 1, LOCATION);
+    patch(out, slot(slots, r), at + 1, Operand::Location);
     put_slot(slots, r, PLACED + at + 1);
 }
 
@@ -696,57 +653,45 @@ fn emit_rules(
 {
     let mut q = 0;
     let mut l = 0;
-    let mut r = 0;
-    while r < rules {
+    for r in 0..rules {
         place_rule(slots, r, out, l);
         let s = emit_rule(cells, slots, q, out, l, sort_at(sorts, r));
         q = s.p;
         l = s.at;
-        r = r + 1;
     }
     l
 }
 
-// 0, or 20 where the table does not fit; and the table's words.
-#[derive(Clone, Copy)]
-pub struct Answer {
-    pub fault: usize,
+// The table does not fit: it takes so many words.
+#[derive(Clone, Copy, Debug, PartialEq, Eq)]
+pub struct TooShort {
     pub size: usize,
 }
 
 // What does not fit, or is no program's cells: every word zero.
-fn too_short(table: &mut [u8], size: usize) -> Answer
-    ensures fault_value { (result.fault ≡ 20) × (result.size ≡ size) }
+fn too_short(table: &mut [u8], size: usize) -> TooShort
+    ensures size { result.size ≡ size }
     ensures table_after { table.new ≡ puts table.old 0 (replicate (words table.old - 0) 0) }
 {
     zero_from(table, 0);
-    Answer {
-        fault: TOO_SHORT,
-        size,
-    }
+    TooShort { size }
 }
 
 // The table of the program whose cells these are into the lent words, zero words behind it; all zero if it does not fit.
 #[inline(never)]
-pub fn emit(cells: &[u16], sorts: &[u8], rules: usize, table: &mut [u8]) -> Answer
-    ensures { Emits cells.now sorts.now rules table.old table.new result.fault result.size }
+pub fn emit(cells: &[u16], sorts: &[u8], rules: usize, table: &mut [u8]) -> Result<usize, TooShort>
+    ensures { Emits cells.now sorts.now rules table.old table.new (fault_in result) (size_in result) }
 {
-    if base::WORD_VALUES < cells.len() {
-        return too_short(table, 0);
-    }
-    if base::RULES < rules {
-        return too_short(table, 0);
+    if base::WORD_VALUES < cells.len() || base::RULES < rules {
+        return Err(too_short(table, 0));
     }
     let mut slots = [0usize; base::RULES];
     // no word is written past the room
-    let end = 2 * least(table.len() / 2, base::TABLE_WORDS);
-    let size = emit_rules(cells, sorts, rules, &mut slots, &mut table[..end]);
-    if base::TABLE_WORDS < size {
-        return too_short(table, size);
-    }
-    if table.len() / 2 < size {
-        return too_short(table, size);
+    let room = (table.len() / 2).min(base::TABLE_WORDS);
+    let size = emit_rules(cells, sorts, rules, &mut slots, &mut table[..2 * room]);
+    if room < size {
+        return Err(too_short(table, size));
     }
     zero_from(table, size);
-    Answer { fault: 0, size }
+    Ok(size)
 }

@@ -1,7 +1,7 @@
 -- The tally of the entries: how many have each byte value, and the token of the first of these.
 use mathlib.Core.Bool.{Bool, true, false, ◌&&◌}
 use mathlib.Core.List.{List}
-use mathlib.Core.Path.{◌≡◌, refl, sym, ap, ◌∙◌}
+use mathlib.Core.Path.{◌≡◌, refl, ap, ◌∙◌}
 use Prim.Native.Nat.{ℕ, ◌+◌, ◌*◌, ◌/◌, ◌<◌, ◌≤◌}
 use native.Mathlib.Decide.{dec_lt}
 use native.Mathlib.Omega.{arith}
@@ -63,8 +63,8 @@ module _ (s : List ℕ) (i x : ℕ) (h : i < length s / 4) where
 pub counts-later : (b token : ℕ) (held map : List ℕ) → (get_or held b 0 ≡ 0 → ⊥) → Counts b token held map (set held b (get_or held b 0 + 1)) map
 counts-later b token held map n = record { count = refl; first = λ z. absurd (n z); later = λ z. refl }
 
-pub counts-first : (b token : ℕ) (held map : List ℕ) → get_or held b 0 ≡ 0 → Counts b token held map (set held b 1) (set map b token)
-counts-first b token held map z = record { count = sym (ap (λ (k : ℕ). set held b (k + 1)) z); first = λ e. refl; later = λ n. absurd (n z) }
+pub counts-first : (b token : ℕ) (held map : List ℕ) → get_or held b 0 ≡ 0 → Counts b token held map (set held b (get_or held b 0 + 1)) (set map b token)
+counts-first b token held map z = record { count = refl; first = λ e. refl; later = λ n. absurd (n z) }
 
 -- One entry
 

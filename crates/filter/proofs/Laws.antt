@@ -1,15 +1,19 @@
 -- Entries by place, and the searches over them.
-use mathlib.Core.Bool.{Bool, true, false}
+use mathlib.Core.Bool.{Bool, true, false, cond}
 use mathlib.Core.List.{List, [], ◌∷◌}
 use mathlib.Core.Option.{none, some}
-use mathlib.Core.Path.{◌≡◌, refl, ap, ◌∙◌}
-use Prim.Native.Nat.{ℕ, zero, suc, ◌+◌, ◌*◌, ◌-◌, ◌/◌, ◌<◌, ◌≤◌}
+use mathlib.Core.Path.{◌≡◌, refl, sym, ap, ◌∙◌}
+use Prim.Native.Nat.{ℕ, zero, suc, ◌+◌, ◌*◌, ◌/◌, ◌<◌, ◌≤◌}
 use native.Mathlib.Numerals.{add-one}
 use native.Mathlib.Omega.{arith}
 use lib.ListN.{length, get_or, drop, drop_of_length-le}
 use borrow.Author.Tests.{lt-ltb, le-ltb}
 use Rattle.filtering.specs.Filter.{entries, crossed, lowest}
-use Rattle.filter.specs.Working.{entry_at, or_none}
+use Rattle.filter.specs.Working.{entry_at, given}
+use Rattle.base.specs.Bools.{never}
+use Rattle.std.specs.Prelude.{None, Some, position, if◌then◌else◌}
+use Rattle.std.specs.List.{position_from}
+use Rattle.std.proofs.lemmas.Iterator.Adapters.{position_from-zero}
 
 pub length-entries : (s : List ℕ) → length (entries s) ≡ length s / 4
 unfolding entries
@@ -49,37 +53,38 @@ module _ (s : List ℕ) where
       ap (λ (k : ℕ). crossed k (drop (i + 1) (entries s))) e ∙ (rw (drop-entries s i h, z) at c)
 
   pub crossed-here : (i : ℕ) → i < length s / 4 → get_or s (4 * i + 1) 0 < get_or s (4 * i) 0 → crossed i (drop i (entries s)) ≡ crossed 0 (entries s)
-      → i ≡ or_none (crossed 0 (entries s))
-  unfolding crossed entry_at or_none
+      → Some i ≡ given (crossed 0 (entries s))
+  unfolding crossed entry_at given
   crossed-here i h u c =
       let z = lt-ltb (get_or s (4 * i + 1) 0) (get_or s (4 * i) 0) u in
       let d : some i ≡ crossed 0 (entries s) = rw (drop-entries s i h, z) at c in
-      ap or_none d
+      ap given d
 
-  pub crossed-end : (i : ℕ) → length s / 4 ≤ i → crossed i (drop i (entries s)) ≡ crossed 0 (entries s) → 65536 ≡ or_none (crossed 0 (entries s))
-  unfolding crossed or_none
-  crossed-end i h c = let d : none ≡ crossed 0 (entries s) = rw (drop-none s i h) at c in ap or_none d
+  pub crossed-end : (i : ℕ) → length s / 4 ≤ i → crossed i (drop i (entries s)) ≡ crossed 0 (entries s) → None ≡ given (crossed 0 (entries s))
+  unfolding crossed given
+  crossed-end i h c = let d : none ≡ crossed 0 (entries s) = rw (drop-none s i h) at c in ap given d
 
 -- The lowest byte that passes a test
 
-module _ (f : ℕ → Bool) where
-  pub low-on : (b : ℕ) → b < 256 → f b ≡ false → lowest f (256 - b) b ≡ lowest f 256 0 → lowest f (256 - (b + 1)) (b + 1) ≡ lowest f 256 0
-  unfolding lowest
-  low-on b h t c =
-      let e : 256 - b ≡ suc (256 - suc b) = omega arith in
-      let g : b + 1 ≡ suc b = add-one b in
-      rw g (rw (e, t) at c)
+lowest-from : (p f : ℕ → Bool) (xs : List ℕ) (n b : ℕ) → n ≡ length xs → ((i : ℕ) → i < n → f (b + i) ≡ p (get_or xs i 0)) → position_from p b xs ≡ given (lowest f n b)
+unfolding lowest given
+lowest-from p f [] zero b e h = refl
+lowest-from p f [] (suc n) b e h = absurd (omega (arith, e))
+lowest-from p f (x ∷ xs) zero b e h = absurd (omega (arith, e))
+lowest-from p f (x ∷ xs) (suc n) b e h =
+    let here : f b ≡ p x = ap f (omega arith) ∙ h 0 (omega arith) in
+    let later = lowest-from p f xs n (suc b) (omega arith) (λ i u. ap f (omega arith) ∙ h (suc i) (omega arith)) in
+    go (p x) (f b) here (ap (λ (j : ℕ). position_from p j xs) (add-one b) ∙ later)
+  where
+    go : (t u : Bool) → u ≡ t → position_from p (b + 1) xs ≡ given (lowest f n (suc b)) → cond t (Some b) (position_from p (b + 1) xs) ≡ given (if u then some b else lowest f n (suc b))
+    go true true e l = refl
+    go false false e l = l
+    go true false e l = never e
+    go false true e l = never (sym e)
 
-  pub low-here : (b : ℕ) → b < 256 → f b ≡ true → lowest f (256 - b) b ≡ lowest f 256 0 → b ≡ or_none (lowest f 256 0)
-  unfolding lowest or_none
-  low-here b h t c =
-      let e : 256 - b ≡ suc (256 - suc b) = omega arith in
-      let d : some b ≡ lowest f 256 0 = rw (e, t) at c in
-      ap or_none d
-
-  pub low_end : (b : ℕ) → 256 ≤ b → lowest f (256 - b) b ≡ lowest f 256 0 → 65536 ≡ or_none (lowest f 256 0)
-  unfolding lowest or_none
-  low_end b h c = let e : 256 - b ≡ 0 = omega arith in let d : none ≡ lowest f 256 0 = rw e at c in ap or_none d
+-- where a byte's count passes a test: the place of the first that does
+pub position-is : (p : ℕ → Bool) (held : List ℕ) → length held ≡ 256 → position p held ≡ given (lowest (λ b. p (get_or held b 0)) 256 0)
+position-is p held e = position_from-zero p held ∙ lowest-from p (λ b. p (get_or held b 0)) held 256 0 (sym e) (λ i u. ap (λ (j : ℕ). p (get_or held j 0)) (omega arith))
 
 -- tests that agree find the same
 pub low_same : (f g : ℕ → Bool) (n b : ℕ) → ((x : ℕ) → x < b + n → f x ≡ g x) → lowest f n b ≡ lowest g n b

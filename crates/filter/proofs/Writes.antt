@@ -1,11 +1,11 @@
 -- Writing the tokens, and the answers of `fold`.
-use mathlib.Core.Bool.{Bool, true, false}
+use mathlib.Core.Bool.{true}
 use mathlib.Core.List.{List, [], ◌∷◌}
 use mathlib.Core.Option.{Option, none, some}
 use mathlib.Core.Path.{◌≡◌, refl, sym, ap, ◌∙◌}
 use Prim.Native.Nat.{ℕ, zero, suc, ◌+◌, ◌*◌, ◌-◌, ◌/◌, ◌%◌, ◌<◌, ◌≤◌}
 use native.Mathlib.Omega.{arith}
-use lib.Dec.{eqb, leb, ltb}
+use lib.Dec.{eqb, leb}
 use lib.ListN.{length, get_or, set, take, length-set}
 use borrow.Author.Tests.{eqb-false, le-leb, lt-leb}
 use Rattle.base.proofs.Laws.{above_zero}
@@ -13,10 +13,16 @@ use Rattle.std.specs.Prelude.{if◌then◌else◌}
 use Rattle.buffers.proofs.Writes.{upto-start, upto_put, upto-end}
 use Rattle.buffers.specs.Words.{put_word}
 use Rattle.filtering.proofs.Exact.{lowest-none}
-use Rattle.filtering.specs.Filter.{Entry, entries, holders, crossed, lowest, doubled, missing, tokens_of, Answer, folded, refused, unless, filter, buffer_after, numbers_of, tells}
+use Rattle.filtering.specs.Filter.{Entry, entries, holders, crossed, doubled, missing, tokens_of, Answer, folded, refused, unless, filter, buffer_after, numbers_of}
 use Rattle.machine.specs.Bytes.{count, bytes_of, over}
-use Rattle.filter.specs.Working.{entry_at, turned, or_none, lowest_doubled, lowest_missing, Tallied, Mapped, map_tokens, put_words}
-use Rattle.filter.proofs.Laws.{length-entries}
+use Rattle.filter.specs.Told.{error_number, named_in, told}
+use Rattle.filter.specs.declared.FilterError.{FilterError}
+use Rattle.filter.specs.declared.FilterError.TheVariants.{OverLimit, Crossed, Doubled, NotCovered, TooShort}
+use Rattle.std.specs.Prelude as P
+use Rattle.std.specs.Prelude.{Result, Ok, Err, None, Some, position}
+use Rattle.std.proofs.lemmas.Option.{none-some, same_Some}
+use Rattle.filter.specs.Working.{entry_at, turned, given, lowest_doubled, lowest_missing, Tallied, Mapped, map_tokens, put_words}
+use Rattle.filter.proofs.Laws.{length-entries, position-is}
 use Rattle.filter.proofs.Counting.{doubled-is, missing-is, map_is}
 
 -- The tokens by the map
@@ -105,94 +111,73 @@ map-tokens es map (x ∷ text) m b = let e = m.tokens x (b 0) in let r = map-tok
 
 -- Answers
 
-some_is : (o : Option ℕ) (c : ℕ) → c ≡ or_none o → c < 65536 → o ≡ some c
-unfolding or_none
-some_is none c e h = absurd (omega arith)
-some_is (some x) c e h = ap some (sym e)
+some_is : (o : Option ℕ) (r : P.Option ℕ) (c : ℕ) → r ≡ given o → r ≡ Some c → o ≡ some c
+unfolding given
+some_is none r c e h = absurd (none-some c (sym e ∙ h))
+some_is (some x) r c e h = ap some (same_Some x c (sym e ∙ h))
 
-none_is : (o : Option ℕ) (c : ℕ) → c ≡ or_none o → 65536 ≤ c → ((x : ℕ) → o ≡ some x → x < 65536) → o ≡ none
-unfolding or_none
-none_is none c e h f = refl
-none_is (some x) c e h f = let l = f x refl in absurd (omega arith)
-
-crossed-low : (i : ℕ) (es : List Entry) (x : ℕ) → crossed i es ≡ some x → x < i + length es
-unfolding crossed
-crossed-low i [] x e = let z : ◌≡◌ {A = ℕ} 0 1 = cc in absurd (omega arith)
-crossed-low i (e₀ ∷ es) x e = go (ltb e₀.last e₀.first) e (crossed-low (suc i) es x)
-  where
-    go : (t : Bool) → (if t then some i else crossed (suc i) es) ≡ some x → (crossed (suc i) es ≡ some x → x < suc i + length es) → x < i + length (e₀ ∷ es)
-    go true d f = let q : i ≡ x = cc in omega arith
-    go false d f = let r = f d in omega arith
-
-lowest-low : (f : ℕ → Bool) (n b x : ℕ) → lowest f n b ≡ some x → x < b + n
-unfolding lowest
-lowest-low f zero b x e = let z : ◌≡◌ {A = ℕ} 0 1 = cc in absurd (omega arith)
-lowest-low f (suc n) b x e = go (f b) e (lowest-low f n (suc b) x)
-  where
-    go : (t : Bool) → (if t then some b else lowest f n (suc b)) ≡ some x → (lowest f n (suc b) ≡ some x → x < suc b + n) → x < b + suc n
-    go true d g = let q : b ≡ x = cc in omega arith
-    go false d g = let r = g d in omega arith
+none_is : (o : Option ℕ) (r : P.Option ℕ) → r ≡ given o → r ≡ None → o ≡ none
+unfolding given
+none_is none r e h = refl
+none_is (some x) r e h = absurd (none-some x (sym h ∙ e))
 
 -- what a call leaves with its caller: the numbers and the buffer are the answer's
-abbrev pub Leaves : Answer → ℕ → ℕ → ℕ → List ℕ → List ℕ → Type 0
-Leaves a number at written before after = (tells number at written ≡ numbers_of a) × (after ≡ buffer_after a before)
+pub record Leaves (a : Answer) (r : Result ℕ FilterError) (before after : List ℕ) : Type 0 where
+  pub told : told r ≡ numbers_of a
+  pub lent : after ≡ buffer_after a before
 
--- by what a function told
-pub told : (a : Answer) (before : List ℕ) {number at written n i w : ℕ} {after : List ℕ} → tells n i w ≡ tells number at written → Leaves a number at written before after → Leaves a n i w before after
-told a before e l = (e ∙ l.0, l.1)
-
-refusal : (a : Answer) (number at : ℕ) (out : List ℕ) → a ≡ refused number at → Leaves a number at 0 out out
+refusal : (a : Answer) (error : FilterError) (out : List ℕ) → a ≡ refused (error_number error) (named_in error) → Leaves a (Err error) out out
 unfolding numbers_of buffer_after
-refusal a number at out e = (rw e, rw e)
+refusal a error out e = record { told = rw e refl; lent = rw e refl }
 
-tokens-put : (a : Answer) (ts : List ℕ) (n : ℕ) (out after : List ℕ) → a ≡ folded ts → n ≡ length ts → after ≡ over (bytes_of ts) out → Leaves a 0 0 n out after
+tokens-put : (a : Answer) (ts : List ℕ) (n : ℕ) (out after : List ℕ) → a ≡ folded ts → n ≡ length ts → after ≡ over (bytes_of ts) out → Leaves a (Ok n) out after
 unfolding numbers_of buffer_after
-tokens-put a ts n out after e f g = (rw (e, f), rw e g)
+tokens-put a ts n out after e f g = record { told = rw (e, f) refl; lent = rw e g }
 
 module _ (s text out : List ℕ) where
   few : length s / 4 ≤ 64 → leb (length (entries s)) 64 ≡ true
   few h = let l = length-entries s in le-leb (length (entries s)) 64 (omega arith)
 
-  pub too_many : 64 < length s / 4 → Leaves (filter s text (count out)) 9 0 0 out out
+  pub too_many : 64 < length s / 4 → Leaves (filter s text (count out)) (Err OverLimit) out out
   unfolding filter
-  too_many h = let l = length-entries s in let t = lt-leb (length (entries s)) 64 (omega arith) in refusal _ 9 0 out (rw t)
+  too_many h = let l = length-entries s in let t = lt-leb (length (entries s)) 64 (omega arith) in refusal _ OverLimit out (rw t refl)
 
-  module _ (h : length s / 4 ≤ 64) (c : ℕ) (ec : c ≡ or_none (crossed 0 (entries s))) where
-    pub at-crossed : c < 65536 → Leaves (filter s text (count out)) 42 c 0 out out
+  module _ (h : length s / 4 ≤ 64) (r : P.Option ℕ) (er : r ≡ given (crossed 0 (entries s))) where
+    pub at-crossed : (entry : ℕ) → r ≡ Some entry → Leaves (filter s text (count out)) (Err (Crossed entry)) out out
     unfolding filter unless
-    at-crossed u = refusal _ 42 c out (rw (few h, some_is (crossed 0 (entries s)) c ec u))
+    at-crossed entry u = refusal _ (Crossed entry) out (rw (few h, some_is (crossed 0 (entries s)) r entry er u) refl)
 
-    no-crossed : 65536 ≤ c → crossed 0 (entries s) ≡ none
-    no-crossed u = none_is (crossed 0 (entries s)) c ec u (λ x e. let l = length-entries s in omega (arith, crossed-low 0 (entries s) x e))
+    no-crossed : r ≡ None → crossed 0 (entries s) ≡ none
+    no-crossed u = none_is (crossed 0 (entries s)) r er u
 
-    module _ (uc : 65536 ≤ c) (held map : List ℕ) (p : Tallied s (length s / 4) held map) (d : ℕ) (ed : d ≡ or_none (lowest_doubled held)) where
-      is-doubled : d ≡ or_none (doubled (entries s))
-      is-doubled = ed ∙ ap or_none (doubled-is s (length s / 4) refl held map p)
+    module _ (uc : r ≡ None) (held map : List ℕ) (p : Tallied s (length s / 4) held map) (d : P.Option ℕ) (ed : d ≡ position (λ k. leb 2 k) held) where
+      is-doubled : d ≡ given (doubled (entries s))
+      unfolding lowest_doubled
+      is-doubled = ed ∙ position-is (λ k. leb 2 k) held p.held_size ∙ ap given (doubled-is s (length s / 4) refl held map p)
 
-      pub at-doubled : d < 65536 → Leaves (filter s text (count out)) 43 d 0 out out
+      pub at-doubled : (byte : ℕ) → d ≡ Some byte → Leaves (filter s text (count out)) (Err (Doubled byte)) out out
       unfolding filter unless
-      at-doubled u = refusal _ 43 d out (rw (few h, no-crossed uc, some_is (doubled (entries s)) d is-doubled u))
+      at-doubled byte u = refusal _ (Doubled byte) out (rw (few h, no-crossed uc, some_is (doubled (entries s)) d byte is-doubled u) refl)
 
-      no-doubled : 65536 ≤ d → doubled (entries s) ≡ none
-      unfolding doubled
-      no-doubled u = none_is (doubled (entries s)) d is-doubled u (λ x e. omega (arith, lowest-low (λ b. leb 2 (holders b (entries s))) 256 0 x e))
+      no-doubled : d ≡ None → doubled (entries s) ≡ none
+      no-doubled u = none_is (doubled (entries s)) d is-doubled u
 
-      module _ (ud : 65536 ≤ d) (m : ℕ) (em : m ≡ or_none (lowest_missing held)) where
-        is-missing : m ≡ or_none (missing (entries s))
-        is-missing = em ∙ ap or_none (missing-is s (length s / 4) refl held map p)
+      module _ (ud : d ≡ None) (m : P.Option ℕ) (em : m ≡ position (λ k. eqb k 0) held) where
+        is-missing : m ≡ given (missing (entries s))
+        unfolding lowest_missing
+        is-missing = em ∙ position-is (λ k. eqb k 0) held p.held_size ∙ ap given (missing-is s (length s / 4) refl held map p)
 
-        pub at-missing : m < 65536 → Leaves (filter s text (count out)) 44 m 0 out out
+        pub at-missing : (byte : ℕ) → m ≡ Some byte → Leaves (filter s text (count out)) (Err (NotCovered byte)) out out
         unfolding filter unless
-        at-missing u = refusal _ 44 m out (rw (few h, no-crossed uc, no-doubled ud, some_is (missing (entries s)) m is-missing u))
+        at-missing byte u = refusal _ (NotCovered byte) out (rw (few h, no-crossed uc, no-doubled ud, some_is (missing (entries s)) m byte is-missing u) refl)
 
-        no-missing : 65536 ≤ m → missing (entries s) ≡ none
-        unfolding missing
-        no-missing u = none_is (missing (entries s)) m is-missing u (λ x e. omega (arith, lowest-low (λ b. eqb (holders b (entries s)) 0) 256 0 x e))
+        no-missing : m ≡ None → missing (entries s) ≡ none
+        no-missing u = none_is (missing (entries s)) m is-missing u
 
-        module _ (um : 65536 ≤ m) where
-          pub too_short : count out < length text → Leaves (filter s text (count out)) 20 0 0 out out
+        module _ (um : m ≡ None) where
+          pub too_short : count out < length text → Leaves (filter s text (count out)) (Err TooShort) out out
           unfolding filter unless
-          too_short u = refusal _ 20 0 out (rw (few h, no-crossed uc, no-doubled ud, no-missing um, lt-leb (length text) (count out) u))
+          too_short u = refusal _ TooShort out (rw (few h, no-crossed uc, no-doubled ud, no-missing um, lt-leb (length text) (count out) u) refl)
 
           accepted : length text ≤ count out → filter s text (count out) ≡ folded (tokens_of (entries s) text)
           unfolding filter unless
@@ -204,7 +189,7 @@ module _ (s text out : List ℕ) where
               (eqb-false (holders x (entries s)) 0 (lowest-none (λ b. eqb (holders b (entries s)) 0) 256 0 (no-missing um) x (omega arith) (omega arith))))
 
           pub all-written : (after : List ℕ) → length text ≤ count out → ((i : ℕ) → get_or text i 0 < 256) → after ≡ over (bytes_of (map_tokens map text)) out
-              → Leaves (filter s text (count out)) 0 0 (length text) out after
+              → Leaves (filter s text (count out)) (Ok (length text)) out after
           all-written after u b e =
               let t = map-tokens (entries s) map text mapped b in
               tokens-put (filter s text (count out)) (tokens_of (entries s) text) (length text) out after (accepted u) (sym (tokens-length map text) ∙ ap length t)

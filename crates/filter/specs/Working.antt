@@ -1,6 +1,8 @@
 -- What the filter's functions compute, over bytes.
 use Rattle.std.specs.Prelude.{List, [], ◌∷◌, ◌≡◌, ℕ, zero, suc, ◌+◌, ◌*◌, ◌/◌, ◌%◌, ◌<◌, ◌≤◌, eqb, leb, length, get_or, set, drop}
 use Rattle.std.proofs.Math.Option.{Option, none, some}
+use Rattle.std.specs.Prelude as P
+use Rattle.std.specs.Prelude.{None, Some}
 use Rattle.buffers.specs.Words.{put_word}
 use Rattle.filtering.specs.Filter.{Entry, entries, holders, lowest, token_of}
 
@@ -12,10 +14,10 @@ entry_at s i = record { first = get_or s (4 * i) 0; last = get_or s (4 * i + 1) 
 unfoldable pub turned : ℕ → ℕ
 turned x = x % 256 * 256 + x / 256
 
--- a number for a place or a byte, 65,536 for none
-unfoldable pub or_none : Option ℕ → ℕ
-or_none none = 65536
-or_none (some x) = x
+-- a place or a byte that a definition finds, as a function gives it
+unfoldable pub given : Option ℕ → P.Option ℕ
+given none = None
+given (some x) = Some x
 
 -- the first byte value that is held twice, or not at all
 unfoldable pub lowest_doubled : List ℕ → Option ℕ
@@ -60,5 +62,5 @@ put_words ws (suc n) k out = put_words ws n (suc k) (put_word out k (get_or ws k
 
 -- all of this file computes where this is unfolded
 unfoldable pub opened : Unit {0}
-unfolding entry_at turned or_none lowest_doubled lowest_missing map_tokens put_words
+unfolding entry_at turned given lowest_doubled lowest_missing map_tokens put_words
 opened = tt

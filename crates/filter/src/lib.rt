@@ -1,13 +1,14 @@
 // The character filter: entries of four bytes, first byte, last byte and token, that name a token for each byte value.
 #![tactic(auto)]
 
-ghost use Rattle.std.specs.Prelude.{◌≡◌, ◌+◌, ◌*◌, ◌-◌, ◌<◌, ◌≤◌, ◌/◌, length, get_or};
+ghost use Rattle.std.specs.Prelude.{◌≡◌, ◌+◌, ◌*◌, ◌-◌, ◌<◌, ◌≤◌, ◌/◌, eqb, leb, length, get_or, position};
 ghost use Rattle.buffers.specs.Words.{put_word};
 ghost use Rattle.machine.specs.Bytes.{count, bytes_of, over};
-ghost use Rattle.filtering.specs.Filter.{entries, crossed, filter, numbers_of, tells, buffer_after};
-ghost use Rattle.filter.specs.Working.{entry_at, turned, or_none, lowest_doubled, lowest_missing, Counts, Tallied, map_tokens, put_words};
+ghost use Rattle.filtering.specs.Filter.{entries, crossed, filter, numbers_of, buffer_after};
+ghost use Rattle.filter.specs.Working.{entry_at, turned, given, Counts, Tallied, map_tokens, put_words};
+ghost use Rattle.filter.specs.Told.{error_number, named_in, told};
 
-use base::{BYTE_VALUES, byte};
+use base::BYTE_VALUES;
 
 // The bytes of an entry: first, last, and the token's two.
 const ENTRY_BYTES: usize = 4;
@@ -23,30 +24,52 @@ const MOST_ENTRIES: usize = 64;
 // The tokens that are put at a time.
 const AT_A_TIME: usize = 4;
 
-// No entry and no byte.
-const NONE: usize = 65536;
+// Why nothing is filtered: too many entries, the first entry whose first exceeds its last, the lowest byte in two entries or in none, or too little room.
+#[derive(Clone, Copy, Debug, PartialEq, Eq)]
+pub enum FilterError {
+    OverLimit,
+    Crossed(usize),
+    Doubled(usize),
+    NotCovered(usize),
+    TooShort,
+}
 
-// What filtering answers: its number, the entry or the byte that it names, the tokens written.
-#[derive(Clone, Copy)]
-pub struct Filtered {
-    pub number: u16,
-    pub at: usize,
-    pub written: usize,
+// The number that C is told of it.
+impl From<FilterError> for u16 {
+    ghost from_gives = { λ error n. n ≡ error_number error };
+
+    fn from(error: FilterError) -> u16 {
+        match error {
+            FilterError::OverLimit => base::OVER_LIMIT,
+            FilterError::Crossed(_) => base::CROSSED,
+            FilterError::Doubled(_) => base::DOUBLED,
+            FilterError::NotCovered(_) => base::NOT_COVERED,
+            FilterError::TooShort => base::TOO_SHORT,
+        }
+    }
+}
+
+// The entry or the byte that it names, 0 for none.
+pub fn named(error: FilterError) -> usize
+    ensures { result ≡ named_in error }
+{
+    match error {
+        FilterError::Crossed(at) | FilterError::Doubled(at) | FilterError::NotCovered(at) => at,
+        FilterError::OverLimit | FilterError::TooShort => 0,
+    }
 }
 
 // The first entry whose first exceeds its last.
-fn first_crossed(s: &[u8], n: usize) -> usize
+fn first_crossed(s: &[u8], n: usize) -> Option<usize>
     requires { n ≡ length s.now / 4 }
-    ensures { result ≡ or_none (crossed 0 (entries s.now)) }
+    ensures { result ≡ given (crossed 0 (entries s.now)) }
 {
-    let mut i: usize = 0;
-    while i < n {
+    for i in 0..n {
         if s[ENTRY_BYTES * i + LAST_AT] < s[ENTRY_BYTES * i] {
-            return i;
+            return Some(i);
         }
-        i += 1;
     }
-    NONE
+    None
 }
 
 // The token of entry i, its bytes exchanged.
@@ -54,8 +77,7 @@ fn turned_token(s: &[u8], i: usize) -> u16
     requires { i < length s.now / 4 }
     ensures { turned result ≡ (entry_at s.now i).token }
 {
-    let token = byte(s[ENTRY_BYTES * i + LOW_AT]) * 256 + byte(s[ENTRY_BYTES * i + HIGH_AT]);
-    token as u16
+    u16::from_le_bytes([s[ENTRY_BYTES * i + HIGH_AT], s[ENTRY_BYTES * i + LOW_AT]])
 }
 
 // One entry more has the byte; the token is that of the first.
@@ -63,12 +85,10 @@ fn tally_byte(b: usize, token: u16, held: &mut [u8], map: &mut [u16])
     requires { (b < length held.old) × (b < length map.old) × (get_or held.old b 0 < 64) }
     ensures { Counts b token held.old map.old held.new map.new }
 {
-    if held[b] != 0 {
-        held[b] += 1;
-        return;
+    if held[b] == 0 {
+        map[b] = token;
     }
-    held[b] = 1;
-    map[b] = token;
+    held[b] += 1;
 }
 
 // Entry i: its bytes.
@@ -77,11 +97,10 @@ fn tally_entry(s: &[u8], i: usize, held: &mut [u8], map: &mut [u16])
     ensures { Tallied s.now (i + 1) held.new map.new }
 {
     let token = turned_token(s, i);
-    let last = byte(s[ENTRY_BYTES * i + LAST_AT]);
-    let mut b = byte(s[ENTRY_BYTES * i]);
-    while b <= last {
+    let first = usize::from(s[ENTRY_BYTES * i]);
+    let last = usize::from(s[ENTRY_BYTES * i + LAST_AT]);
+    for b in first..last + 1 {
         tally_byte(b, token, held, map);
-        b += 1;
     }
 }
 
@@ -90,41 +109,23 @@ fn tally(s: &[u8], n: usize, held: &mut [u8], map: &mut [u16])
     requires { (n ≡ length s.now / 4) × (n ≤ 64) × Tallied s.now 0 held.old map.old }
     ensures { Tallied s.now n held.new map.new }
 {
-    let mut i: usize = 0;
-    while i < n {
+    for i in 0..n {
         tally_entry(s, i, held, map);
-        i += 1;
     }
 }
 
 // The lowest byte in two entries.
-fn lowest_doubled(held: &[u8]) -> usize
-    requires { length held.now ≡ 256 }
-    ensures { result ≡ or_none (lowest_doubled held.now) }
+fn lowest_doubled(held: &[u8]) -> Option<usize>
+    ensures { result ≡ position (λ k. leb 2 k) held.now }
 {
-    let mut b: usize = 0;
-    while b < BYTE_VALUES {
-        if 2 <= held[b] {
-            return b;
-        }
-        b += 1;
-    }
-    NONE
+    held.iter().position(|&count| 2 <= count)
 }
 
 // The lowest byte in none.
-fn lowest_missing(held: &[u8]) -> usize
-    requires { length held.now ≡ 256 }
-    ensures { result ≡ or_none (lowest_missing held.now) }
+fn lowest_missing(held: &[u8]) -> Option<usize>
+    ensures { result ≡ position (λ k. eqb k 0) held.now }
 {
-    let mut b: usize = 0;
-    while b < BYTE_VALUES {
-        if held[b] == 0 {
-            return b;
-        }
-        b += 1;
-    }
-    NONE
+    held.iter().position(|&count| count == 0)
 }
 
 // The word x, whose bytes are exchanged, at index i.
@@ -132,8 +133,9 @@ fn put_turned(out: &mut [u8], i: usize, x: u16)
     requires { 2 * i + 1 < length out.old }
     ensures { out.new ≡ put_word out.old i (turned x) }
 {
-    out[2 * i] = (x % 256) as u8;
-    out[2 * i + 1] = (x / 256) as u8;
+    let [low, high] = x.to_le_bytes();
+    out[2 * i] = low;
+    out[2 * i + 1] = high;
 }
 
 // The token of byte k of the text.
@@ -141,8 +143,7 @@ fn put_token(map: &[u16], text: &[u8], k: usize, out: &mut [u8])
     requires { (length map.now ≡ 256) × (k < length text.now) × (2 * length text.now ≤ length out.old) }
     ensures { out.new ≡ put_words (map_tokens map.now text.now) 1 k out.old }
 {
-    let b = byte(text[k]);
-    put_turned(out, k, map[b]);
+    put_turned(out, k, map[usize::from(text[k])]);
 }
 
 fn put_two(map: &[u16], text: &[u8], k: usize, out: &mut [u8])
@@ -158,13 +159,12 @@ fn put_fours(map: &[u16], text: &[u8], out: &mut [u8]) -> usize
     requires { (length map.now ≡ 256) × (2 * length text.now ≤ length out.old) }
     ensures { (result ≤ length text.now) × (out.new ≡ put_words (map_tokens map.now text.now) result 0 out.old) }
 {
-    let mut k: usize = 0;
-    while AT_A_TIME <= text.len() - k {
-        put_two(map, text, k, out);
-        put_two(map, text, k + 2, out);
-        k += AT_A_TIME;
+    let fours = text.len() / AT_A_TIME;
+    for i in 0..fours {
+        put_two(map, text, AT_A_TIME * i, out);
+        put_two(map, text, AT_A_TIME * i + 2, out);
     }
-    k
+    AT_A_TIME * fours
 }
 
 // The tokens of the text from byte k on.
@@ -172,10 +172,8 @@ fn put_rest(map: &[u16], text: &[u8], k: usize, out: &mut [u8])
     requires { (length map.now ≡ 256) × (k ≤ length text.now) × (2 * length text.now ≤ length out.old) }
     ensures { out.new ≡ put_words (map_tokens map.now text.now) (length text.now - k) k out.old }
 {
-    let mut i = k;
-    while i < text.len() {
+    for i in k..text.len() {
         put_token(map, text, i, out);
-        i += 1;
     }
 }
 
@@ -188,47 +186,30 @@ fn put_tokens(map: &[u16], text: &[u8], out: &mut [u8])
     put_rest(map, text, k, out);
 }
 
-fn refuse(number: u16, at: usize) -> Filtered
-    ensures { tells result.number result.at result.written ≡ tells number at 0 }
-{
-    Filtered {
-        number,
-        at,
-        written: 0,
-    }
-}
-
-// The tokens of a byte string under a filter, written from the start of a lent buffer.
-pub fn fold(s: &[u8], text: &[u8], out: &mut [u8]) -> Filtered
-    ensures written_value { tells result.number result.at result.written ≡ numbers_of (filter s.now text.now (count out.old)) }
+// The tokens of a byte string under a filter, written from the start of a lent buffer; how many.
+pub fn fold(s: &[u8], text: &[u8], out: &mut [u8]) -> Result<usize, FilterError>
+    ensures told { told result ≡ numbers_of (filter s.now text.now (count out.old)) }
     ensures lent { out.new ≡ buffer_after (filter s.now text.now (count out.old)) out.old }
 {
     let n = s.len() / ENTRY_BYTES;
     if MOST_ENTRIES < n {
-        return refuse(base::OVER_LIMIT, 0);
+        return Err(FilterError::OverLimit);
     }
-    let c = first_crossed(s, n);
-    if c < NONE {
-        return refuse(base::CROSSED, c);
+    if let Some(entry) = first_crossed(s, n) {
+        return Err(FilterError::Crossed(entry));
     }
     let mut held = [0u8; BYTE_VALUES];
     let mut map = [0u16; BYTE_VALUES];
     tally(s, n, &mut held, &mut map);
-    let d = lowest_doubled(&held);
-    if d < NONE {
-        return refuse(base::DOUBLED, d);
+    if let Some(byte) = lowest_doubled(&held) {
+        return Err(FilterError::Doubled(byte));
     }
-    let m = lowest_missing(&held);
-    if m < NONE {
-        return refuse(base::NOT_COVERED, m);
+    if let Some(byte) = lowest_missing(&held) {
+        return Err(FilterError::NotCovered(byte));
     }
     if out.len() / 2 < text.len() {
-        return refuse(base::TOO_SHORT, 0);
+        return Err(FilterError::TooShort);
     }
     put_tokens(&map, text, out);
-    Filtered {
-        number: 0,
-        at: 0,
-        written: text.len(),
-    }
+    Ok(text.len())
 }

@@ -1,13 +1,13 @@
 -- A call of the walker's definitions on the walk that some bytes are gives what the call over bytes gives.
-use mathlib.Core.Bool.{Bool, true, false, not}
+use Rattle.base.specs.Bools.{split}
 use mathlib.Core.List.{List}
+use Rattle.std.specs.Prelude.{Option}
 use mathlib.Core.Option.{none, some}
-use mathlib.Core.Path.{◌≡◌, refl, ap, ◌∙◌}
+use mathlib.Core.Path.{◌≡◌, ap, ◌∙◌}
 use Prim.Native.Nat.{ℕ, ◌<◌}
 use native.Mathlib.Omega.{arith}
 use lib.Dec.{eqb}
 use lib.ListN.{length}
-use Rattle.std.specs.Prelude.{if◌then◌else◌}
 use Rattle.machine.proofs.Bytes.{length-words_of, length-table_of}
 use Rattle.machine.proofs.Form.{walk_of-fits}
 use Rattle.machine.proofs.Words.{small-words, small-table}
@@ -19,6 +19,7 @@ use Rattle.machine.specs.Form as form
 use Rattle.walker.proofs.Link.{whole-call, paused-call}
 use Rattle.walker.specs.Linked.{Bytes, handed, Agrees}
 use Rattle.walker.specs.Shape as shape
+use Rattle.walker.specs.Shape.{ending_number}
 use Rattle.walker.specs.View as view
 use Rattle.walker.specs.declared.Called.{Called}
 use Rattle.walker.specs.declared.Walk.{Walk}
@@ -42,21 +43,17 @@ at-used : (w : Walk) → form.Fits (view.walk_of w) → w.at.used < 184467440737
 unfolding view.walk_of view.walk_in
 at-used w f = f.used
 
--- an answer is handed where `given` is not 0
-handed-is : (b : Bool) (x : ℕ) → handed (not b) x ≡ (if b then none else some x)
-handed-is true x = refl
-handed-is false x = refl
-
-small-handed : (g : Bool) (x : ℕ) → x < 65536 → SmallMode (paused (handed g x))
-small-handed true x h = h
-small-handed false x h = tt
+-- the answer that is handed is a word
+pub small-handing : (given x : ℕ) → x < 65536 → SmallMode (handing given x)
+unfolding handing
+small-handing given x h = split (eqb given 0) (λ e. rw e tt) (λ e. rw e h)
 
 -- what the call's caller is left with: y, where the call was done
-pub left-with : {r : Called} {x : shape.Outcome} {y : form.Outcome} {number written steps : ℕ} {walk buffer : List ℕ} → Done x y
-    → (r.walk ≡ x.walk) × ((r.events ≡ x.events) × ((r.steps ≡ x.steps) × ((r.number ≡ x.number) × (buffer ≡ x.out))))
-    → (number ≡ r.number) × (walk ≡ form.walk_bytes (view.walk_of r.walk)) × (written ≡ r.events) × (steps ≡ r.steps)
+pub left-with : (r : Called) {x : shape.Outcome} {y : form.Outcome} {number written steps : ℕ} {walk buffer : List ℕ} → Done x y
+    → (r.walk ≡ x.walk) × ((r.events ≡ x.events) × ((r.steps ≡ x.steps) × ((ending_number r.ending ≡ x.number) × (buffer ≡ x.out))))
+    → (number ≡ ending_number r.ending) × (walk ≡ form.walk_bytes (view.walk_of r.walk)) × (written ≡ r.events) × (steps ≡ r.steps)
     → gives number walk buffer written steps ≡ y
-left-with d r g =
+left-with told d r g =
     let walk = g.1 ∙ ap (λ w. form.walk_bytes (view.walk_of w)) r.0 ∙ d.walk in
     λ i. gives ((g.0 ∙ r.1.1.1.0 ∙ d.number) i) (walk i) ((r.1.1.1.1 ∙ d.buffer) i) ((g.2 ∙ r.1.0 ∙ d.events) i) ((g.3 ∙ r.1.1.0 ∙ d.steps) i)
 
@@ -91,9 +88,7 @@ module _ (table tokens : List ℕ) (budget : ℕ) (s buffer : List ℕ) (w : Wal
       → Done (shape.whole_of table tokens answers budget w buffer w.phase) (form.call_bytes table tokens (whole (words_of answers)) budget s buffer)
   whole-done answers small-a = done (whole (words_of answers)) (small-words answers small-a) _ (whole-call table tokens budget w buffer sized used small-t small-k answers small-a)
 
-  pub paused-done : (given x : ℕ) → x < 65536
-      → Done (shape.paused_of table tokens (not (eqb given 0)) x budget w buffer w.phase) (form.call_bytes table tokens (handing given x) budget s buffer)
-  unfolding handing
-  paused-done given x h =
-      rw (handed-is (eqb given 0) x) at
-      (done (paused (handed (not (eqb given 0)) x)) (small-handed (not (eqb given 0)) x h) _ (paused-call table tokens budget w buffer sized used small-t small-k (not (eqb given 0)) x h))
+  pub paused-done : (g : Option ℕ) (given x : ℕ) → paused (handed g) ≡ handing given x → x < 65536
+      → Done (shape.paused_of table tokens g budget w buffer w.phase) (form.call_bytes table tokens (handing given x) budget s buffer)
+  paused-done g given x e h =
+      rw (← e) (done (paused (handed g)) (rw e (small-handing given x h)) _ (paused-call table tokens budget w buffer sized used small-t small-k g (rw e (small-handing given x h))))

@@ -1,18 +1,13 @@
 -- Words written one after the other are the words of one list, and all the words of a buffer are the buffer.
-use mathlib.Core.Bool.{Bool, false, ◌&&◌, and-false}
 use mathlib.Core.List.{List, [], ◌∷◌, ◌++◌, append-nil, reverse, reverse-reverse}
-use mathlib.Core.Path.{◌≡◌, refl, sym, ap, ◌∙◌}
+use mathlib.Core.Path.{◌≡◌, refl, ap, ◌∙◌}
 use Prim.Native.Nat.{ℕ, suc, ◌+◌, ◌*◌, ◌-◌, ◌/◌, ◌%◌, ◌<◌, ◌≤◌}
 use native.Mathlib.Nat.{add-zero}
 use native.Mathlib.Numerals.{add-one}
 use native.Mathlib.Omega.{arith}
 use lib.ListN.{length, take, drop, get_or, set, replicate, length-append, length-take, length-reverse, length-replicate, drop_of_length-le, get_or-append}
 use lib.Seq.{sets, length-sets, sets-eq, get_or-take, get_or-append-add}
-use lib.Dec.{eqb}
-use borrow.Author.Tests.{eqb-true, eq-eqb}
-use Rattle.base.specs.Bools.{never, split}
-use Rattle.base.specs.Common.{same}
-use Rattle.base.proofs.Laws.{zeros-at, same_next, same_not}
+use Rattle.base.proofs.Laws.{zeros-at}
 use Rattle.machine.proofs.Bytes.{length-bytes_of, bytes_of-append}
 use Rattle.machine.specs.Bytes.{bytes_of}
 use Rattle.machine.specs.Form.{words64, return_words}
@@ -84,15 +79,3 @@ return-free d rs i h =
     let n : length (take d rs) ≤ i = simp length-take (omega arith) in
     let e : i ≡ length (take d rs) + (i - length (take d rs)) = omega arith in
     rw (return-words, e) (get_or-append-add (take d rs) (replicate (64 - length (take d rs)) 0) (i - length (take d rs)) 0 ∙ zeros-at (64 - length (take d rs)) (i - length (take d rs)))
-
--- Comparing
-
--- one byte more is compared: r is what held so far, if the two bytes are the same, and else false
-pub agreed : (all r : Bool) (a b : List ℕ) (i : ℕ) → i < length a → i < length b → (get_or a i 0 ≡ get_or b i 0 → r ≡ all) → ((get_or a i 0 ≡ get_or b i 0 → ⊥) → r ≡ false)
-    → (all && same (drop i a) (drop i b)) ≡ (r && same (drop (i + 1) a) (drop (i + 1) b))
-agreed all r a b i h k s o =
-    split (eqb (get_or a i 0) (get_or b i 0))
-    (λ t. let e = eqb-true (get_or a i 0) (get_or b i 0) t in
-    ap (λ (x : Bool). all && x) (same_next a b i h k e) ∙ ap (λ (x : Bool). x && same (drop (i + 1) a) (drop (i + 1) b)) (sym (s e)))
-    (λ f. let n : get_or a i 0 ≡ get_or b i 0 → ⊥ = λ e. never (sym f ∙ eq-eqb (get_or a i 0) (get_or b i 0) e) in
-    ap (λ (x : Bool). all && x) (same_not a b i h k n) ∙ and-false all ∙ ap (λ (x : Bool). x && same (drop (i + 1) a) (drop (i + 1) b)) (sym (o n)))

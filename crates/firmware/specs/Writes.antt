@@ -1,12 +1,12 @@
--- Words written to a buffer of bytes, and what `read_walk` finds in one.
-use Rattle.std.specs.Prelude.{true, false, List, ◌∷◌, ◌++◌, ◌≡◌, ℕ, ◌*◌, ◌%◌, ◌<◌, min, length, get_or, drop}
-use Rattle.std.proofs.Math.Option.{none, some}
+-- Words written to a buffer of bytes, and the walk that a buffer is.
+use Rattle.std.specs.Prelude.{List, ◌∷◌, ◌++◌, ◌≡◌, ℕ, ◌*◌, ◌%◌, ◌<◌, min, length, get_or, drop}
+use Rattle.std.proofs.Math.Option.{some}
 use Rattle.std.proofs.lemmas.List.Edits.{sets}
 use Rattle.machine.specs.Bytes.{bytes_of}
 use Rattle.machine.specs.Form as form
 use Rattle.walker.specs.View as view
 use Rattle.walker.specs.declared.Registers.{Registers}
-use Rattle.firmware.specs.declared.Held.{Held}
+use Rattle.walker.specs.declared.Walk.{Walk}
 
 -- s with the words ws from index i on
 unfoldable pub puts : List ℕ → ℕ → List ℕ → List ℕ
@@ -28,9 +28,8 @@ registers_in ws = record {
   allowance = get_or ws 6 0;
 }
 
--- h says which walk the bytes s are, or that they are none; the walk it holds can be written
-pub record Holds (s : List ℕ) (h : Held) : Type 0 where
-  pub some_walk : h.ok ≡ true → form.walk_of s ≡ some (view.walk_of h.walk)
-  pub no_walk : h.ok ≡ false → form.walk_of s ≡ none
-  pub location : h.walk.at.location < 65536
-  pub returns : length h.walk.returns ≡ 64
+-- w is the walk that the bytes s are, and it can be written
+pub record Is (s : List ℕ) (w : Walk) : Type 0 where
+  pub walk : form.walk_of s ≡ some (view.walk_of w)
+  pub location : w.at.location < 65536
+  pub returns : length w.returns ≡ 64

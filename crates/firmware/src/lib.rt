@@ -1,11 +1,11 @@
 // What the C entries of include/sst.h do (firmware_c exports them): numbers and byte slices, the walk as its 158 bytes (docs/LAYOUT.md).
 #![tactic(auto)]
 
-ghost use Rattle.std.specs.Prelude.{[], ◌∷◌, reverse, false, ◌≡◌, ◌+◌, ◌*◌, ◌<◌, ◌≤◌, min, length, take, drop, get_or};
-ghost use Rattle.base.specs.Common.{same as same_bytes};
+ghost use Rattle.std.specs.Prelude.{[], ◌∷◌, reverse, false, ◌≡◌, ◌+◌, ◌*◌, ◌<◌, ◌≤◌, min, length, take, drop, get_or, IfSome, IfNone};
 ghost use Rattle.machine.specs.Bytes.{words_of, table_of, count};
 ghost use Rattle.machine.specs.Walk.{fresh};
-ghost use Rattle.machine.specs.Call.{whole};
+ghost use Rattle.std.proofs.Math.Option.{none};
+ghost use Rattle.machine.specs.Call.{whole, paused};
 ghost use Rattle.machine.specs.Form as form;
 ghost use Rattle.loading.specs.File as files;
 ghost use Rattle.rights.specs.Rights as rights;
@@ -16,13 +16,16 @@ ghost use Rattle.firmware.specs.Filing.{hands};
 ghost use Rattle.firmware.specs.Turning.{leaves};
 ghost use Rattle.figure.specs.Told.{figure_of};
 ghost use Rattle.firmware.specs.Processing.{flag_of, numbers_of, tells};
+ghost use Rattle.walker.specs.Linked as linked;
+ghost use Rattle.walker.specs.Shape.{ending_number};
 ghost use Rattle.walker.specs.View as view;
-ghost use Rattle.firmware.specs.Writes.{puts, register_words, registers_in, Holds};
+ghost use Rattle.firmware.specs.Writes.{puts, register_words, registers_in, Is};
 ghost use Rattle.firmware.specs.Entries.{phase_in, reason_in, phase_number, reason_or_none, location_or0, read_or0, used_or0, allowance_or0, fresh_number, fresh_in, handing, gives};
 
+use admission::AdmissionError;
 use base::{PENDING, low_word};
 use buffers::{put_64, put_word, read_64, wide_word};
-use walker::{Called, Phase, Reason, Registers, Walk, number_of};
+use walker::{Called, Phase, Reason, Registers, Walk};
 
 // The bytes of a walk, and where its words begin (docs/LAYOUT.md).
 const WALK_BYTES: usize = 158;
@@ -47,8 +50,6 @@ const USED_WORD: usize = 11;
 
 const RETURNS_WORD: usize = 15;
 
-const MOST_HELD: u16 = PENDING as u16;
-
 // The numbers of phases, that of bytes which are no walk, and the reason of a walk that has not stopped.
 const GOING: u16 = 0;
 
@@ -70,13 +71,6 @@ const SCREEN_BYTES: usize = 332;
 const BOOK_WORDS: usize = 83;
 
 const LEFT_WORD: usize = 79;
-
-// Whether some bytes are a walk, and which.
-#[derive(Clone, Copy)]
-pub struct Held {
-    pub ok: bool,
-    pub walk: Walk,
-}
 
 // Writing words
 
@@ -104,7 +98,7 @@ fn put_phase(out: &mut [u8], p: Phase)
     match p {
         Phase::Going => put_two(out, PHASE_WORD, GOING, 0),
         Phase::Waiting => put_two(out, PHASE_WORD, WAITING, 0),
-        Phase::Stopped(r) => put_two(out, PHASE_WORD, STOPPED, number_of(r)),
+        Phase::Stopped(r) => put_two(out, PHASE_WORD, STOPPED, u16::from(r)),
     }
 }
 
@@ -112,11 +106,7 @@ fn put_phase(out: &mut [u8], p: Phase)
 fn held_of(depth: usize) -> u16
     ensures { result ≡ min depth 64 }
 {
-    if depth < PENDING {
-        depth as u16
-    } else {
-        MOST_HELD
-    }
+    depth.min(PENDING) as u16
 }
 
 // Words 2 to 14.
@@ -142,15 +132,12 @@ fn put_returns(out: &mut [u8], returns: &[u16], depth: usize)
     requires { (158 ≤ length out.old) × (length returns.now ≡ 64) }
     ensures { out.new ≡ puts out.old 15 (form.return_words (reverse (take depth returns.now))) }
 {
-    let held = held_of(depth) as usize;
-    let mut i = 0;
-    while i < held {
+    let held = depth.min(PENDING);
+    for i in 0..held {
         put_word(out, RETURNS_WORD + i, returns[i]);
-        i += 1;
     }
-    while i < PENDING {
+    for i in held..PENDING {
         put_word(out, RETURNS_WORD + i, 0);
-        i += 1;
     }
 }
 
@@ -159,12 +146,9 @@ pub fn put_walk(out: &mut [u8], w: Walk)
     requires { (length out.old ≡ 158) × (w.at.location < 65536) }
     ensures { out.new ≡ form.walk_bytes (view.walk_of w) }
 {
-    let phase = w.phase;
-    let at = w.at;
-    let returns = w.returns;
-    put_phase(out, phase);
-    put_registers(out, at);
-    put_returns(out, &returns, at.depth);
+    put_phase(out, w.phase);
+    put_registers(out, w.at);
+    put_returns(out, &w.returns, w.at.depth);
 }
 
 // Reading words
@@ -214,10 +198,8 @@ fn returns_of(s: &[u8]) -> [u16; PENDING]
     ensures { result ≡ take 64 (drop 15 (words_of s.now)) }
 {
     let mut returns = [0u16; PENDING];
-    let mut i = 0;
-    while i < PENDING {
+    for i in 0..PENDING {
         returns[i] = machine::word(s, RETURNS_WORD + i);
-        i += 1;
     }
     returns
 }
@@ -233,28 +215,6 @@ fn named(s: &[u8]) -> Walk
     Walk { phase, at, returns }
 }
 
-// What held so far, and the two bytes are the same. Without an early way out many are compared at once.
-fn agrees(all: bool, x: u8, y: u8) -> bool
-    ensures same { x ≡ y → result ≡ all }
-    ensures other { (x ≡ y → ⊥) → result ≡ false }
-{
-    if x == y { all } else { false }
-}
-
-// Whether a and b have the same bytes.
-fn same(a: &[u8], b: &[u8]) -> bool
-    requires { length a.now ≡ length b.now }
-    ensures { result ≡ same_bytes a.now b.now }
-{
-    let mut all = true;
-    let mut i = 0;
-    while i < a.len() {
-        all = agrees(all, a[i], b[i]);
-        i += 1;
-    }
-    all
-}
-
 fn fresh_walk(allowance: u16) -> Walk
     ensures { (view.walk_of result ≡ fresh allowance) × (result.at.location < 65536) }
 {
@@ -266,20 +226,17 @@ fn fresh_walk(allowance: u16) -> Walk
 }
 
 // The walk that the bytes are: what they name, if that is written so.
-pub fn read_walk(s: &[u8]) -> Held
-    ensures { Holds s.now result }
+pub fn read_walk(s: &[u8]) -> Option<Walk>
+    ensures walk { IfSome result (Is s.now) }
+    ensures no_walk { IfNone result (form.walk_of s.now ≡ none) }
 {
     if s.len() != WALK_BYTES {
-        return Held {
-            ok: false,
-            walk: fresh_walk(0),
-        };
+        return None;
     }
     let walk = named(s);
     let mut form = [0u8; WALK_BYTES];
     put_walk(&mut form, walk);
-    let ok = same(&form, s);
-    Held { ok, walk }
+    if &form[..] == s { Some(walk) } else { None }
 }
 
 // Entries
@@ -308,13 +265,12 @@ fn refuse(written: &mut u64, steps: &mut u64) -> u16
 // A call is done: the walk is written.
 fn give(r: Called, walk: &mut [u8], written: &mut u64, steps: &mut u64) -> u16
     requires { (length walk.old ≡ 158) × (r.walk.at.location < 65536) }
-    ensures { (result ≡ r.number) × (walk.new ≡ form.walk_bytes (view.walk_of r.walk)) × (written.new ≡ r.events) × (steps.new ≡ r.steps) }
+    ensures { (result ≡ ending_number r.ending) × (walk.new ≡ form.walk_bytes (view.walk_of r.walk)) × (written.new ≡ r.events) × (steps.new ≡ r.steps) }
 {
     *written = r.events;
     *steps = r.steps;
-    let w = r.walk;
-    put_walk(walk, w);
-    r.number
+    put_walk(walk, r.walk);
+    u16::from(r.ending)
 }
 
 // A whole call, on bytes alone.
@@ -330,14 +286,18 @@ pub fn sst_whole(
 ) -> u16
     ensures { gives result walk.new events.new written.new steps.new ≡ form.call_bytes table.now tokens.now (whole (words_of answers.now)) budget walk.old events.old }
 {
-    let h = read_walk(walk);
-    if h.ok {
-        let w = h.walk;
-        let r = w.whole(table, tokens, answers, budget, events);
-        give(r, walk, written, steps)
-    } else {
-        refuse(written, steps)
-    }
+    let Some(w) = read_walk(walk) else {
+        return refuse(written, steps);
+    };
+    let r = w.whole(table, tokens, answers, budget, events);
+    give(r, walk, written, steps)
+}
+
+// The answer of a paused call, where one is given.
+fn handed(given: u16, answer: u16) -> Option<u16>
+    ensures { paused (linked.handed result) ≡ handing given answer }
+{
+    if given != 0 { Some(answer) } else { None }
 }
 
 // A paused call, on bytes alone.
@@ -354,15 +314,11 @@ pub fn sst_paused(
 ) -> u16
     ensures { gives result walk.new events.new written.new steps.new ≡ form.call_bytes table.now tokens.now (handing given answer) budget walk.old events.old }
 {
-    let h = read_walk(walk);
-    if h.ok {
-        let w = h.walk;
-        let is_given = given != 0;
-        let r = w.paused(table, tokens, is_given, answer, budget, events);
-        give(r, walk, written, steps)
-    } else {
-        refuse(written, steps)
-    }
+    let Some(w) = read_walk(walk) else {
+        return refuse(written, steps);
+    };
+    let r = w.paused(table, tokens, handed(given, answer), budget, events);
+    give(r, walk, written, steps)
 }
 
 // Two books over one table
@@ -371,11 +327,7 @@ pub fn sst_paused(
 fn is_book(book: u16, screen: &[u8]) -> bool
     ensures { result ≡ is_book book screen.now }
 {
-    if book < BOOKS {
-        screen.len() == SCREEN_BYTES
-    } else {
-        false
-    }
+    book < BOOKS && screen.len() == SCREEN_BYTES
 }
 
 // A fresh walk with its repair allowance, and no steps left.
@@ -403,7 +355,7 @@ pub fn sst_screen_fresh(screen: &mut [u8], allowance_0: u16, allowance_1: u16) -
 fn left_word(book: u16) -> usize
     ensures { result ≡ book * 83 + 79 }
 {
-    book as usize * BOOK_WORDS + LEFT_WORD
+    usize::from(book) * BOOK_WORDS + LEFT_WORD
 }
 
 // The steps left to a book are set anew.
@@ -507,87 +459,62 @@ fn reason_or_none(p: Phase) -> u16
     ensures { result ≡ reason_in (view.phase_of p) }
 {
     match p {
-        Phase::Going => NO_REASON,
-        Phase::Waiting => NO_REASON,
-        Phase::Stopped(r) => number_of(r),
+        Phase::Going | Phase::Waiting => NO_REASON,
+        Phase::Stopped(r) => u16::from(r),
     }
 }
 
 pub fn sst_phase(walk: &[u8]) -> u16
     ensures { result ≡ phase_number (form.walk_of walk.now) }
 {
-    let h = read_walk(walk);
-    if h.ok {
-        let w = h.walk;
-        let p = w.phase;
-        phase_number(p)
-    } else {
-        NO_WALK
+    match read_walk(walk) {
+        Some(w) => phase_number(w.phase),
+        None => NO_WALK,
     }
 }
 
 pub fn sst_reason(walk: &[u8]) -> u16
     ensures { result ≡ reason_or_none (form.walk_of walk.now) }
 {
-    let h = read_walk(walk);
-    if h.ok {
-        let w = h.walk;
-        let p = w.phase;
-        reason_or_none(p)
-    } else {
-        NO_REASON
+    match read_walk(walk) {
+        Some(w) => reason_or_none(w.phase),
+        None => NO_REASON,
     }
 }
 
 pub fn sst_location(walk: &[u8]) -> u16
     ensures { result ≡ location_or0 (form.walk_of walk.now) }
 {
-    let h = read_walk(walk);
-    if h.ok {
-        let w = h.walk;
-        let at = w.at;
-        at.location as u16
-    } else {
-        0
+    match read_walk(walk) {
+        Some(w) => w.at.location as u16,
+        None => 0,
     }
 }
 
 pub fn sst_read(walk: &[u8]) -> u64
     ensures { result ≡ read_or0 (form.walk_of walk.now) }
 {
-    let h = read_walk(walk);
-    if h.ok {
-        let w = h.walk;
-        let at = w.at;
-        at.read
-    } else {
-        0
+    match read_walk(walk) {
+        Some(w) => w.at.read,
+        None => 0,
     }
 }
 
 pub fn sst_used(walk: &[u8]) -> u64
     ensures { result ≡ used_or0 (form.walk_of walk.now) }
 {
-    let h = read_walk(walk);
-    if h.ok {
-        let w = h.walk;
-        let at = w.at;
-        at.used
-    } else {
-        0
+    match read_walk(walk) {
+        Some(w) => w.at.used,
+        None => 0,
     }
 }
 
 pub fn sst_allowance(walk: &[u8]) -> u16
     ensures { result ≡ allowance_or0 (form.walk_of walk.now) }
 {
-    let h = read_walk(walk);
-    if h.ok {
-        let w = h.walk;
-        let at = w.at;
-        low_word(at.allowance)
-    } else {
-        0
+    match read_walk(walk) {
+        Some(w) => low_word(w.at.allowance),
+        None => 0,
     }
 }
 
@@ -628,10 +555,18 @@ pub fn sst_load(file: &[u8], table: &mut [u8], words: &mut u64, verdict: &mut u6
     ensures verdict_after { hands result words.new verdict.new ≡ files.numbers_of (files.load file.now (count table.old)) }
     ensures lent { table.new ≡ files.lent_bytes (files.load file.now (count table.old)) table.old }
 {
-    let a = loader::load(file, table);
-    *words = a.words as u64;
-    *verdict = a.verdict as u64;
-    a.number
+    match loader::load(file, table) {
+        Ok(loaded) => {
+            *words = loaded.words as u64;
+            *verdict = loaded.verdict as u64;
+            0
+        }
+        Err(error) => {
+            *words = 0;
+            *verdict = 0;
+            u16::from(error)
+        }
+    }
 }
 
 // The file of a table and a verdict is put into the lent buffer, if the loader would take it.
@@ -640,18 +575,32 @@ pub fn sst_write_file(table: &[u8], verdict: u64, file: &mut [u8], words: &mut u
     ensures words { words.new ≡ (files.numbers_of (files.store (words_of table.now) verdict (count file.old))).words }
     ensures lent { file.new ≡ files.lent_bytes (files.store (words_of table.now) verdict (count file.old)) file.old }
 {
-    let a = writer::write_file(table, verdict, file);
-    *words = a.words as u64;
-    a.number
+    match writer::write_file(table, verdict, file) {
+        Ok(written) => {
+            *words = written as u64;
+            0
+        }
+        Err(error) => {
+            *words = 0;
+            u16::from(error)
+        }
+    }
 }
 
 // Whether a table is admitted for the publisher who holds the set.
 pub fn sst_admit(table: &[u8], set: &[u8], location: &mut u64) -> u16
     ensures { rights.says result location.new ≡ rights.admit (table_of table.now) set.now }
 {
-    let a = admission::admits(table, set);
-    *location = a.location as u64;
-    a.number
+    match admission::admits(table, set) {
+        Ok(()) => {
+            *location = 0;
+            0
+        }
+        Err(denial) => {
+            *location = admission::location_of(denial) as u64;
+            u16::from(denial)
+        }
+    }
 }
 
 // A table file is loaded and its table admitted, on bytes and numbers alone.
@@ -666,11 +615,26 @@ pub fn sst_load_admitted(
     ensures location_after { rights.tells result words.new verdict.new location.new ≡ rights.admit_loaded set.now (files.load file.now (count table.old)) }
     ensures lent { table.new ≡ files.lent_bytes (files.load file.now (count table.old)) table.old }
 {
-    let a = admission::load_admitted(file, set, table);
-    *words = a.words as u64;
-    *verdict = a.verdict as u64;
-    *location = a.location as u64;
-    a.number
+    match admission::load_admitted(file, set, table) {
+        Ok(loaded) => {
+            *words = loaded.words as u64;
+            *verdict = loaded.verdict as u64;
+            *location = 0;
+            0
+        }
+        Err(AdmissionError::Denied(loaded, denial)) => {
+            *words = loaded.words as u64;
+            *verdict = loaded.verdict as u64;
+            *location = admission::location_of(denial) as u64;
+            u16::from(denial)
+        }
+        Err(AdmissionError::NotLoaded(error)) => {
+            *words = 0;
+            *verdict = 0;
+            *location = 0;
+            u16::from(error)
+        }
+    }
 }
 
 // The character filter, on bytes and numbers alone.
@@ -684,8 +648,11 @@ pub fn sst_filter(
     ensures written_after { filtering.tells result at.new written.new ≡ filtering.numbers_of (filtering.filter filter.now text.now (count tokens.old)) }
     ensures lent { tokens.new ≡ filtering.buffer_after (filtering.filter filter.now text.now (count tokens.old)) tokens.old }
 {
-    let r = filter::fold(filter, text, tokens);
-    *at = r.at as u64;
-    *written = r.written as u64;
-    r.number
+    let (number, named, count) = match filter::fold(filter, text, tokens) {
+        Ok(count) => (0, 0, count),
+        Err(error) => (u16::from(error), filter::named(error), 0),
+    };
+    *at = named as u64;
+    *written = count as u64;
+    number
 }

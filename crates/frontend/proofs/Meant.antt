@@ -9,7 +9,7 @@ use Rattle.names.specs.Known.{Checked, good, wrong}
 use Rattle.names.specs.Understand.{understand}
 use Rattle.program.specs.Program.{Rule}
 use Rattle.reader.specs.Counting.{Decides}
-use Rattle.reader.specs.declared.Out.{Out}
+use Rattle.reader.specs.Answers.{Out}
 use Rattle.syntax.specs.Parse.{parse}
 use Rattle.syntax.specs.Written.{Program}
 

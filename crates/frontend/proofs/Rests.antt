@@ -1,5 +1,5 @@
 -- The rules' part: from what is told of the pairs, of the rules built and of those made to the outcome.
-use mathlib.Core.Bool.{Bool, true, false}
+use mathlib.Core.Bool.{Bool, true, false, false≢true}
 use mathlib.Core.List.{List, [], ◌++◌}
 use mathlib.Core.Logic.{◌⊎◌, inl, inr}
 use mathlib.Core.Path.{◌≡◌, refl, sym, ap, ◌∙◌, subst}
@@ -20,7 +20,9 @@ use Rattle.levels.specs.Making.{MadeEnd, MakeDone}
 use Rattle.levels.specs.declared.Made.{Made}
 use Rattle.maker.specs.Pairing.{PairsEnd, paired, passed, PairsDone}
 use Rattle.maker.specs.Pairs.{AllOrdered, pairs_held, pairs_mean, PairsAre}
-use Rattle.maker.specs.declared.Paired.{Paired}
+use Rattle.base.specs.Faults.{fault_number}
+use Rattle.base.specs.declared.Refusal.{Refusal}
+use Rattle.std.specs.Prelude.{Result, Ok, Err, IsOk}
 use Rattle.names.specs.Declare.{known_rules}
 use Rattle.names.specs.Known.{Checked, good, wrong, ◌>>=◌, KnownRule, Names}
 use Rattle.names.specs.Uses.{rules_uses, pairs_of, made_for}
@@ -83,7 +85,13 @@ module _ {cs cs₁ starts₁ sorts₁ cs₂ starts₂ sorts₂ : List ℕ} {c k 
 
 -- The outcome
 
-module _ {text rows rows' : List ℕ} {n first at : ℕ} {p : Program} {names : Names} (known : Declared text rows n first at p names) {q : Paired} (pairing : PairsDone text rows n first at rows' q)
+same-refusal : {A : Type 0} {x y : Refusal} → ◌≡◌ {A = Result A Refusal} (Err x) (Err y) → x ≡ y
+same-refusal e = cc
+
+never-ok : {A : Type 0} {q : Result A Refusal} {x : Refusal} → q ≡ Err x → IsOk q → ⊥
+never-ok e g = false≢true (rw e at g)
+
+module _ {text rows rows' : List ℕ} {n first at : ℕ} {p : Program} {names : Names} (known : Declared text rows n first at p names) {A : Type 0} {q : Result A Refusal} (pairing : PairsDone text rows n first at rows' q)
     {cs cs₁ starts₁ sorts₁ : List ℕ} {b : Rules} (done : RulesDone text rows' n first at cs cs₁ starts₁ sorts₁ b) where
   abbrev ks : List KnownRule
   ks = known_rules 0 p.rules
@@ -119,14 +127,16 @@ module _ {text rows rows' : List ℕ} {n first at : ℕ} {p : Program} {names : 
       go (wrong k w) (faulty d nonzero start len) = mistaken (e₁ ∙ d) nonzero (e₂ ∙ start) (e₃ ∙ len)
 
   -- then 9 at a `^`
-  pub limit-passed : {cells starts sorts : List ℕ} {r : Resolved} → b.fault ≡ 0 → (q.fault ≡ 0 → ⊥) → r.fault ≡ q.fault → r.at ≡ q.at → r.len ≡ q.len
+  pub limit-passed : {cells starts sorts : List ℕ} {r : Resolved} → b.fault ≡ 0 → {x : Refusal} → q ≡ Err x → r.fault ≡ fault_number x.fault → r.at ≡ x.at → r.len ≡ x.len
       → Resolves text rows' cells starts sorts r p (rules_by p names)
-  limit-passed {cells} {starts} {sorts} {r} f z e₁ e₂ e₃ = go (written_by p names) refl told
+  limit-passed {cells} {starts} {sorts} {r} f {x = limit} z e₁ e₂ e₃ = go (written_by p names) refl told
     where
       made : (own : List Rule) {x : Checked (List Rule)} → PairsEnd (held text rows n) [] rows' names (length p.rules) (pairs_of p.rules) q x
           → Resolves text rows' cells starts sorts r p (◌>>=◌ x (λ made. good (own ++ made)))
-      made own (paired g _) = absurd (z g)
-      made own (passed g start len) = mistaken (e₁ ∙ g) (λ y. omega (arith, y)) (e₂ ∙ start) (e₃ ∙ len)
+      made own (paired g _) = absurd (never-ok z g)
+      made own (passed {e = e} h g start len) =
+          let same : limit ≡ e = same-refusal (sym z ∙ h) in
+          mistaken (e₁ ∙ ap (λ (x : Refusal). fault_number x.fault) same ∙ g) (λ y. omega (arith, y)) (e₂ ∙ ap (λ (x : Refusal). x.at) same ∙ start) (e₃ ∙ ap (λ (x : Refusal). x.len) same ∙ len)
 
       go : (x : Checked (List Rule)) → written_by p names ≡ x → RulesEnd (PairsAre text rows' n p names) cs cs₁ starts₁ sorts₁ b x
           → Resolves text rows' cells starts sorts r p (◌>>=◌ x (λ own. ◌>>=◌ (made_by p names) (λ made. good (own ++ made))))
@@ -185,7 +195,7 @@ module _ {text rows rows' : List ℕ} {n first at : ℕ} {p : Program} {names : 
     answer = record { fault = 0; at = 0; len = 0; cells = m.count; rules = m.rules; written = b.rules; declared = n; first = first; body = at }
 
     -- the outcome, with what stands in the rows
-    pub rules_made : b.fault ≡ 0 → q.fault ≡ 0 → at ≤ length text → Kept text rows n
+    pub rules_made : b.fault ≡ 0 → IsOk q → at ≤ length text → Kept text rows n
         → Resolves text rows' cs₂ starts₂ sorts₂ answer p (rules_by p names)
     rules_made f g inside kept = go (written_by p names) refl told
       where
@@ -219,7 +229,7 @@ module _ {text rows rows' : List ℕ} {n first at : ℕ} {p : Program} {names : 
         made own e (built z number appends sorted begins) d (paired {ms = ms} _ h) =
             let are = pairs-are own e h in
             meant refl (ready own ms e d are (built z number appends sorted begins)) (rowed own e number are)
-        made own e _ d (passed h _ _) = absurd (omega (arith, h, g))
+        made own e _ d (passed h _ _ _) = absurd (never-ok h g)
 
         go : (x : Checked (List Rule)) → written_by p names ≡ x → RulesEnd (PairsAre text rows' n p names) cs cs₁ starts₁ sorts₁ b x
             → Resolves text rows' cs₂ starts₂ sorts₂ answer p (◌>>=◌ x (λ own. ◌>>=◌ (made_by p names) (λ made. good (own ++ made))))

@@ -12,7 +12,7 @@ use Rattle.processor.specs.Process.{refused, meaning, part_of, checked, read_in,
 use Rattle.program.specs.Accepted.{Accepted}
 use Rattle.program.specs.Program.{Rule}
 use Rattle.reader.specs.Counting.{Decides, fine, wrong as mistaken}
-use Rattle.reader.specs.declared.Out.{Out}
+use Rattle.reader.specs.Answers.{Out}
 use Rattle.syntax.specs.Parse.{parse}
 use Rattle.syntax.specs.Reading.{Read, got, fault}
 use Rattle.syntax.specs.Written.{Program}

@@ -52,10 +52,7 @@ fn filled(count: usize) -> usize
     ensures low { result ≤ 4225 }
     ensures same { count ≤ 4225 → result ≡ count }
 {
-    if CELLS < count {
-        return CELLS + 1;
-    }
-    count
+    count.min(CELLS + 1)
 }
 
 // The rules of a text whose declarations are in order: the pairs of its uses of operators, its own rules, then those made for the pairs.
@@ -77,8 +74,8 @@ fn resolve_rules(
     if b.fault != 0 {
         return mistake(b.fault, b.at, b.len);
     }
-    if q.fault != 0 {
-        return mistake(q.fault, q.at, q.len);
+    if let Err(limit) = q {
+        return mistake(u16::from(limit.fault), limit.at, limit.len);
     }
     let written = Made {
         count: filled(b.count),
@@ -112,9 +109,8 @@ pub fn resolve(
 {
     let c = collector::collect(text, rows);
     symbols::index(text, rows, c.count);
-    let d = declarer::check_declarations(text, rows, c.count);
-    if d.fault != 0 {
-        return mistake(d.fault, d.at, d.len);
+    if let Err(refusal) = declarer::check_declarations(text, rows, c.count) {
+        return mistake(u16::from(refusal.fault), refusal.at, refusal.len);
     }
     resolve_rules(text, rows, c, cells, starts, sorts)
 }

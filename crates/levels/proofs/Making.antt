@@ -6,7 +6,7 @@ use mathlib.Core.Path.{◌≡◌, refl, sym, ap, ◌∙◌}
 use Prim.Native.Nat.{ℕ, zero, suc, ◌+◌, ◌*◌, ◌-◌, ◌%◌, ◌<◌, ◌≤◌}
 use native.Mathlib.Nat.{add-zero, mod-eq_of_lt}
 use native.Mathlib.Omega.{arith}
-use borrow.Author.Tests.{ltb-true, ltb-false}
+use borrow.Author.Tests.{ltb-false}
 use lib.Dec.{ltb}
 use lib.ListN.{length, get_or, set}
 use lib.Seq.{get_or-set_same, get_or-set_other}
@@ -23,8 +23,9 @@ use Rattle.maker.proofs.Ranking.{RankIs, rank_is}
 use Rattle.maker.proofs.Taking.{row_at, row-less, levels-used}
 use Rattle.maker.specs.Pairing.{PlaceOf, passes}
 use Rattle.maker.specs.Pairs.{Pair, pair_at, pairs_from, pairs_held, section_row, operand_row, Ordered, AllOrdered, pair_of, pairs_mean}
-use Rattle.maker.specs.Ranks.{no_rank, RankDone}
+use Rattle.maker.specs.Ranks.{no_rank, rank_or, RankBound, RankDone}
 use Rattle.maker.specs.declared.Rank.{Rank}
+use Rattle.std.specs.Prelude.{Option, Some, None, MatchOption, IfSome}
 use Rattle.names.specs.Declare.{known_rules}
 use Rattle.names.specs.Known.{Checked, good, wrong, ◌>>=◌, fault_if, KnownRule, Names}
 use Rattle.names.specs.Uses.{Use, pairs_of, levels_used, operand_of, made_for}
@@ -121,38 +122,33 @@ going-first {text} {rows} {n} {q} {cs} {c} {starts} {sorts} {l} d = record {
 }
 
 -- the rule above
-higher-is : (own operand h : ℕ) (m : Rank) (ops : List Operator) (ls : List Level) → ls ≡ rest m ops → (m.level < 16 → rest m ops ≡ record { right = m.right; operators = at_level m.level ops } ∷ levels_from (15 - m.level) (suc m.level) ops)
-    → m.level ≤ 16 → (m.level < 16 → h ≡ own + 1) → (16 ≤ m.level → h ≡ operand) → higher_of own operand ls ≡ h
-unfolding higher_of levels_from
-higher-is own operand h m ops ls e here most a b = go (ltb m.level 16) refl
-  where
-    go : (t : Bool) → ltb m.level 16 ≡ t → higher_of own operand ls ≡ h
-    go true q =
-        let z = ltb-true m.level 16 q in
-        let y : suc own ≡ h = omega (arith, a z) in
-        ap (higher_of own operand) (e ∙ here z) ∙ y
-    go false q =
-        let z = ltb-false m.level 16 q in
-        let y : m.level ≡ 16 = omega (arith, z, most) in
-        ap (higher_of own operand) (e ∙ ap (λ (i : ℕ). levels_from (16 - i) i ops) y) ∙ sym (b z)
+higher-is : (own operand h : ℕ) (m : Option Rank) (ops : List Operator) (ls : List Level) → ls ≡ rest (rank_or m) ops
+    → ((rank_or m).level < 16 → rest (rank_or m) ops ≡ record { right = (rank_or m).right; operators = at_level (rank_or m).level ops } ∷ levels_from (15 - (rank_or m).level) (suc (rank_or m).level) ops)
+    → IfSome m (λ s. s.level ≤ 15) → MatchOption m (h ≡ operand) (λ _. h ≡ own + 1) → higher_of own operand ls ≡ h
+unfolding higher_of levels_from no_rank
+higher-is own operand h (Some m) ops ls e here b f =
+    let y : suc own ≡ h = omega (arith, f) in
+    ap (higher_of own operand) (e ∙ here (omega (arith, b))) ∙ y
+higher-is own operand h None ops ls e here b f = ap (higher_of own operand) e ∙ sym f
 
-pub higher-low : (l : ℕ) {own operand h : ℕ} → (l < 16 → h ≡ own + 1) → (16 ≤ l → h ≡ operand) → own < 128 → operand < 65536 → h < 65536
-higher-low l {own} {operand} {h} a b p q = go (ltb l 16) refl
-  where
-    go : (t : Bool) → ltb l 16 ≡ t → h < 65536
-    go true e = omega (arith, a (ltb-true l 16 e), p)
-    go false e = omega (arith, b (ltb-false l 16 e), q)
+low-bound : (above : ℕ) (m : Option Rank) → RankBound above m → IfSome m (λ s. s.level ≤ 15)
+low-bound above None b = tt
+low-bound above (Some m) b = b.1
 
-pub going_more : {text rows : List ℕ} {n : ℕ} {q : Site} {cs : List ℕ} {c : ℕ} {starts sorts : List ℕ} {own : ℕ} {l m : Rank} {cs₁ : List ℕ} {c₁ : ℕ} {starts₁ sorts₁ starts₂ sorts₂ cs₂ : List ℕ} {c₂ h : ℕ}
-    → length cs₁ ≤ 60000 → length starts₁ ≡ 128 → length sorts₁ ≡ 128 → own < 128 → l.level < 16 → m.level ≤ 16 → RestIs text q.at l → RankDone text q.at l.level no_rank m
-    → (m.level < 16 → h ≡ own + 1) → (16 ≤ m.level → h ≡ q.operand) → starts₂ ≡ set starts₁ own (c₁ % 65536) → sorts₂ ≡ set sorts₁ own 0
+pub higher-low : (m : Option Rank) {own operand h : ℕ} → MatchOption m (h ≡ operand) (λ _. h ≡ own + 1) → own < 128 → operand < 65536 → h < 65536
+higher-low None f p q = omega (arith, f, q)
+higher-low (Some m) f p q = omega (arith, f, p)
+
+pub going_more : {text rows : List ℕ} {n : ℕ} {q : Site} {cs : List ℕ} {c : ℕ} {starts sorts : List ℕ} {own : ℕ} {l : Rank} (m : Option Rank) {cs₁ : List ℕ} {c₁ : ℕ} {starts₁ sorts₁ starts₂ sorts₂ cs₂ : List ℕ} {c₂ h : ℕ}
+    → length cs₁ ≤ 60000 → length starts₁ ≡ 128 → length sorts₁ ≡ 128 → own < 128 → l.level < 16 → RankBound l.level m → RestIs text q.at l → RankDone text q.at l.level no_rank (rank_or m)
+    → MatchOption m (h ≡ q.operand) (λ _. h ≡ own + 1) → starts₂ ≡ set starts₁ own (c₁ % 65536) → sorts₂ ≡ set sorts₁ own 0
     → LevelPut text rows n (record { at = q.at; level = l.level; right = l.right; own = own; higher = h }) cs₁ c₁ cs₂ c₂ → Going text rows n q cs c starts sorts own l cs₁ c₁ starts₁ sorts₁
-    → Going text rows n q cs c starts sorts (own + 1) m cs₂ c₂ starts₂ sorts₂
+    → Going text rows n q cs c starts sorts (own + 1) (rank_or m) cs₂ c₂ starts₂ sorts₂
 unfolding level_rules
-going_more {text} {rows} {n} {q} {cs} {c} {starts} {sorts} {own} {l} {m} {cs₁} {c₁} {starts₁} {sorts₁} {starts₂} {sorts₂} {cs₂} {c₂} {h} big ls ss low lev most r d a b es eo put g = record { going = go }
+going_more {text} {rows} {n} {q} {cs} {c} {starts} {sorts} {own} {l} m {cs₁} {c₁} {starts₁} {sorts₁} {starts₂} {sorts₂} {cs₂} {c₂} {h} big ls ss low lev bound r d a es eo put g = record { going = go }
   where
     go : (os : List written.Operator) (ws' : List Word) → OperatorsIn (words_at text q.at) ws' os → q.own + length (levels_of (operators_from (held text rows n) os)) ≤ 128
-        → Progress q.own q.operand (operators_from (held text rows n) os) cs c starts sorts (own + 1) m cs₂ c₂ starts₂ sorts₂
+        → Progress q.own q.operand (operators_from (held text rows n) os) cs c starts sorts (own + 1) (rank_or m) cs₂ c₂ starts₂ sorts₂
     go os ws' x few = record {
       sum = omega (arith, p.sum, ap length whole);
       before = λ cs' starts' sorts' s more f.
@@ -166,14 +162,14 @@ going_more {text} {rows} {n} {q} {cs} {c} {starts} {sorts} {own} {l} {m} {cs₁}
         p : Progress q.own q.operand ops cs c starts sorts own l cs₁ c₁ starts₁ sorts₁
         p = g.going os ws' x few
 
-        i : RankIs ops l.level m
+        i : RankIs ops l.level (rank_or m)
         i = rank_is (held text rows n) os ws' d (omega (arith, lev)) x
 
-        whole : rest l ops ≡ record { right = l.right; operators = at_level l.level ops } ∷ rest m ops
+        whole : rest l ops ≡ record { right = l.right; operators = at_level l.level ops } ∷ rest (rank_or m) ops
         whole = r.here (held text rows n) os ws' x lev ∙ ap {B = List Level} (λ (v : List Level). record { right = l.right; operators = at_level l.level ops } ∷ v) i.levels
 
-        above : higher_of own q.operand (rest m ops) ≡ h
-        above = higher-is own q.operand h m ops (rest m ops) refl i.here most a b
+        above : higher_of own q.operand (rest (rank_or m) ops) ≡ h
+        above = higher-is own q.operand h m ops (rest (rank_or m) ops) refl i.here (low-bound _ m bound) a
 
         next : suc own ≡ own + 1
         next = omega arith

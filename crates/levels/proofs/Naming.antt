@@ -1,5 +1,5 @@
 -- The first use of a pair: the walk finds it, and it is the one by which the pair stands among the text's.
-use mathlib.Core.Bool.{Bool, true, false, ◌||◌}
+use mathlib.Core.Bool.{Bool, true, false, ◌&&◌, ◌||◌}
 use mathlib.Core.List.{List, [], ◌∷◌, ◌++◌, append_assoc}
 use mathlib.Core.Option.{Option, none, some}
 use mathlib.Core.Path.{◌≡◌, refl, sym, ap, ◌∙◌}
@@ -10,13 +10,14 @@ use lib.Dec.{eqb}
 use lib.ListN.{length}
 use Rattle.base.proofs.Laws.{same-eq, same_refl}
 use Rattle.base.specs.Bools.{never, and}
-use Rattle.std.specs.Prelude.{if◌then◌else◌}
+use Rattle.std.specs.Prelude.{Some, None, if◌then◌else◌}
 use Rattle.base.specs.Common.{same}
 use Rattle.declarations.specs.Decls.{Decl}
 use Rattle.levels.specs.Naming.{is_of, first_use, behind_first, AllFirst, Names, WordOf, Found, FirstDone}
 use Rattle.levels.specs.declared.FirstUse.{FirstUse}
 use Rattle.levels.specs.declared.Part.{Part}
-use Rattle.maker.proofs.Holding.{operand-is}
+use Rattle.maker.proofs.Holding.{operand-is, never-none}
+use Rattle.maker.proofs.Taking.{found-is}
 use Rattle.maker.proofs.Walking.{same-pair, sign_of, word-long, marks-end, marks-last, marks-use, marks-other}
 use Rattle.maker.specs.Marks.{use_of, marks}
 use Rattle.maker.specs.Pairing.{UseRead, AllNamed}
@@ -34,18 +35,24 @@ use Rattle.words.specs.Words.{Word, words_at}
 pub word-no : {text rows : List ℕ} {n : ℕ} {w : WordAt} {s o : ℕ} → (w.kind ≡ 94 → ⊥) → WordOf text rows n w s o false
 word-no k = record { other = λ _. refl; caret = λ e. absurd (k e) }
 
-pub word-is : {text rows : List ℕ} {n : ℕ} (w : WordAt) {s o : ℕ} {u : Used} → w.kind ≡ 94 → UseRead text rows n w.next u → u.section ≡ s → WordOf text rows n w s o (eqb u.operand o)
+pub word-is : {text rows : List ℕ} {n : ℕ} (w : WordAt) {s o : ℕ} {u : Used} → w.kind ≡ 94 → UseRead text rows n w.next (Some u) → WordOf text rows n w s o (eqb u.section s && eqb u.operand o)
 unfolding is_of
-word-is {text} w {s} {o} k d e = record {
+word-is {text} w {s} {o} k d = record {
   other = λ f. absurd (f k);
-  caret = λ _ nm or. let f = d.finds (as_word text w) nm or in rw (eq-eqb _ s (sym f.section ∙ e), ← f.operand) refl;
+  caret = λ _ nm or. let f = found-is (d.finds (as_word text w) nm or) in rw (f.0, f.1) refl;
 }
 
-pub word_else : {text rows : List ℕ} {n : ℕ} (w : WordAt) {s o : ℕ} {u : Used} → w.kind ≡ 94 → UseRead text rows n w.next u → (u.section ≡ s → ⊥) → WordOf text rows n w s o false
-unfolding is_of
-word_else {text} w {s} {o} k d e = record {
+-- the test of the section, and then of the operand
+pub word-met : {text rows : List ℕ} {n : ℕ} {w : WordAt} {s o x : ℕ} {b : Bool} → x ≡ s → WordOf text rows n w s o (eqb x s && b) → WordOf text rows n w s o b
+word-met {s = s} {x = x} e d = rw (eq-eqb x s e) at d
+
+pub word-missed : {text rows : List ℕ} {n : ℕ} {w : WordAt} {s o x : ℕ} (b : Bool) → (x ≡ s → ⊥) → WordOf text rows n w s o (eqb x s && b) → WordOf text rows n w s o (eqb x s)
+word-missed {s = s} {x = x} b e d = rw (ne_eqb x s e) (rw (ne_eqb x s e) at d)
+
+pub word-none : {text rows : List ℕ} {n : ℕ} (w : WordAt) {s o : ℕ} → w.kind ≡ 94 → UseRead text rows n w.next None → WordOf text rows n w s o false
+word-none {text} w k d = record {
   other = λ _. refl;
-  caret = λ _ nm or. let f = d.finds (as_word text w) nm or in rw (ne_eqb _ s (λ q. e (f.section ∙ q))) refl;
+  caret = λ _ nm or. absurd (never-none (d.finds (as_word text w) nm or).there);
 }
 
 pub name-is : (text : List ℕ) (w : WordAt) {s c o : WordAt} {k : ℕ} → w.next ≤ length text → Next text w.next s → Next text s.next c → Next text c.next o → k ≡ o.start + o.len - w.start

@@ -27,29 +27,25 @@ use Rattle.resolver.proofs.Appending.{appends-length, appends-bound, appends-non
 use Rattle.resolver.specs.Resolved.{Appends}
 use Rattle.scanner.specs.Next.{Next, as_word}
 use Rattle.scanner.specs.declared.WordAt.{WordAt}
-use Rattle.symbols.specs.Rows.{held}
-use Rattle.symbols.specs.Search.{Tells, there, nowhere}
+use Rattle.std.specs.Prelude.{Option as Answer, Some, None, IfSome, unwrap_or}
+use Rattle.symbols.specs.Rows.{answer_of, held}
 use Rattle.syntax.specs.Reading.{peek}
 use Rattle.syntax.specs.Written.{Operator}
 use Rattle.words.specs.Words.{Word, words_at}
 
 -- Values
 
-pub value_there : {v : ℕ} (ds : List Decl) (c : ℕ) (w : Word) → Tells v (find w.text (knowns_in c ds)) → v < 65536 → v ≡ value_in ds c w
+pub value_is : {v : ℕ} {r : Answer ℕ} (ds : List Decl) (c : ℕ) (w : Word) → v ≡ unwrap_or r 0 → r ≡ answer_of (find w.text (knowns_in c ds)) → v ≡ value_in ds c w
 unfolding value_in
-value_there {v} ds c w t h = go (find w.text (knowns_in c ds)) t
+value_is ds c w q e = q ∙ rw e (go (find w.text (knowns_in c ds)))
   where
-    go : (x : Option ℕ) → Tells v x → ◌≡◌ {A = ℕ} v (elim x as (λ _. ℕ) [ some u ↦ u | none ↦ 0 ])
-    go (some u) (there e l) = e
-    go none (nowhere e) = absurd (omega (arith, e, h))
+    go : (x : Option ℕ) → unwrap_or (answer_of x) 0 ≡ elim x as (λ _. ℕ) [ some u ↦ u | none ↦ 0 ]
+    go (some u) = refl
+    go none = refl
 
-pub value_none : {v : ℕ} (ds : List Decl) (c : ℕ) (w : Word) → Tells v (find w.text (knowns_in c ds)) → 65536 ≤ v → 0 ≡ value_in ds c w
-unfolding value_in
-value_none {v} ds c w t h = go (find w.text (knowns_in c ds)) t
-  where
-    go : (x : Option ℕ) → Tells v x → ◌≡◌ {A = ℕ} 0 (elim x as (λ _. ℕ) [ some u ↦ u | none ↦ 0 ])
-    go (some u) (there e l) = absurd (omega (arith, e, l, h))
-    go none (nowhere e) = refl
+pub value-low : {v : ℕ} (r : Answer ℕ) → v ≡ unwrap_or r 0 → IfSome r (λ u. u < 65536) → v < 65536
+value-low None q l = omega (arith, q)
+value-low (Some u) q l = omega (arith, q, l)
 
 -- One entry
 

@@ -1,7 +1,7 @@
 // The rules made for operators, one for each level of each pair, as cells behind those of the rules written.
 #![tactic(auto)]
 
-ghost use Rattle.std.specs.Prelude.{◌≡◌, [], ◌∷◌, ℕ, ◌+◌, ◌<◌, ◌≤◌, ◌%◌, length, set};
+ghost use Rattle.std.specs.Prelude.{◌≡◌, [], ◌∷◌, ℕ, ◌+◌, ◌<◌, ◌≤◌, ◌%◌, length, set, MatchOption};
 ghost use Rattle.declarations.specs.Decls.{value_in};
 ghost use Rattle.levels.specs.LevelCells.{open_cells, close_cells, called_by};
 ghost use Rattle.levels.specs.Making.{entry_cells, OperatorsPut, LevelPut, SiteDone, SiteOf, MakeDone};
@@ -13,7 +13,7 @@ ghost use Rattle.symbols.specs.Index.{Kept};
 ghost use Rattle.symbols.specs.Rows.{held, word_of};
 ghost use Rattle.words.specs.Words.{words_at};
 
-use maker::{Entry, NO_LEVEL, Rank};
+use maker::{Entry, Rank};
 use scanner::WordAt;
 use symbols::{INPUT, OUTPUT, PAIR, PAIR_OPERAND, PAIR_RULE, PAIR_SECTION, PAIRS, ROW, VALUE};
 
@@ -28,7 +28,7 @@ const EXIT: usize = cells::EXIT as usize;
 const END: usize = cells::END as usize;
 
 // A pair: where its section's entries stand, the place of its operand rule, that of its lowest rule, how many cells there are before it.
-#[derive(Clone, Copy)]
+#[derive(Clone, Copy, Debug, PartialEq, Eq)]
 pub struct Site {
     pub at: usize,
     pub operand: usize,
@@ -37,7 +37,7 @@ pub struct Site {
 }
 
 // A rule to be made: where its section's entries stand, its level and side, its place, the rule that it calls first.
-#[derive(Clone, Copy)]
+#[derive(Clone, Copy, Debug, PartialEq, Eq)]
 pub struct Nested {
     pub at: usize,
     pub level: usize,
@@ -47,28 +47,28 @@ pub struct Nested {
 }
 
 // The alternatives of a rule: the level of their entries, the rule that each calls.
-#[derive(Clone, Copy)]
+#[derive(Clone, Copy, Debug, PartialEq, Eq)]
 pub struct Aim {
     pub level: usize,
     pub called: usize,
 }
 
 // A part of the text.
-#[derive(Clone, Copy)]
+#[derive(Clone, Copy, Debug, PartialEq, Eq)]
 pub struct Part {
     pub start: usize,
     pub len: usize,
 }
 
 // A use of operators that was found: its name, and the place behind its `^`, where the uses behind it begin.
-#[derive(Clone, Copy)]
+#[derive(Clone, Copy, Debug, PartialEq, Eq)]
 pub struct FirstUse {
     pub name: Part,
     pub next: usize,
 }
 
 // How many cells and rules there are.
-#[derive(Clone, Copy)]
+#[derive(Clone, Copy, Debug, PartialEq, Eq)]
 pub struct Made {
     pub count: usize,
     pub rules: usize,
@@ -82,11 +82,7 @@ fn value_in(text: &[u8], rows: &[u16], n: usize, class: usize, start: usize, len
     ensures same { (kind : ℕ) → result ≡ value_in (held text.now rows.now n) class (word_of text.now kind start len) }
     ensures low { result < 65536 }
 {
-    let v = symbols::find_value(text, rows, n, class, start, len);
-    if v < symbols::NONE {
-        return v;
-    }
-    0
+    symbols::find_value(text, rows, n, class, start, len).unwrap_or(0)
 }
 
 // `| token: @called .emits`
@@ -126,9 +122,10 @@ fn put_if(
     ensures { Appends cells.old count (entry_cells (held text.now rows.now n) text.now aim.level aim.called e) cells.new result }
 {
     if e.level == aim.level {
-        return put_operator(text, rows, n, aim.called, e, cells, count);
+        put_operator(text, rows, n, aim.called, e, cells, count)
+    } else {
+        count
     }
-    count
 }
 
 // The entries of the level, from the place `at` on.
@@ -146,18 +143,16 @@ fn put_operators(
 {
     let mut i = at;
     let mut c = count;
+    // no range: what is read says where the next begins
     loop {
         let e = maker::read_entry(text, i);
-        let o = e.emits;
+        let next = e.emits.next;
         c = put_if(text, rows, n, aim, e, cells, c);
-        let w = scanner::next_word(text, o.next);
-        if w.kind == words::SEMICOLON {
+        let w = scanner::next_word(text, next);
+        if w.kind == words::SEMICOLON || next <= i {
             return c;
         }
-        if o.next <= i {
-            return c;
-        }
-        i = o.next;
+        i = next;
     }
 }
 
@@ -167,9 +162,10 @@ fn open_level(cells: &mut [u16], count: usize, right: bool, higher: usize) -> us
 {
     let c = resolver::put_two(cells, count, cells::CALL, higher);
     if right {
-        return resolver::put(cells, c, cells::BY_TOKEN);
+        resolver::put(cells, c, cells::BY_TOKEN)
+    } else {
+        resolver::put_two(cells, c, cells::CYCLE, BY_TOKEN)
     }
-    resolver::put_two(cells, c, cells::CYCLE, BY_TOKEN)
 }
 
 fn close_level(cells: &mut [u16], count: usize, right: bool) -> usize
@@ -177,21 +173,19 @@ fn close_level(cells: &mut [u16], count: usize, right: bool) -> usize
 {
     if right {
         let c = resolver::put_two(cells, count, cells::OTHERWISE, END);
-        return resolver::put(cells, c, cells::END);
+        resolver::put(cells, c, cells::END)
+    } else {
+        let a = resolver::put_two(cells, count, cells::OTHERWISE, EXIT);
+        let b = resolver::put_two(cells, a, cells::END, END);
+        resolver::put(cells, b, cells::END)
     }
-    let a = resolver::put_two(cells, count, cells::OTHERWISE, EXIT);
-    let b = resolver::put_two(cells, a, cells::END, END);
-    resolver::put(cells, b, cells::END)
 }
 
 // The rule that the alternatives call: a left level the next higher one, a right level itself.
 fn called_by(x: Nested) -> usize
     ensures { result ≡ called_by x.right x.own x.higher }
 {
-    if x.right {
-        return x.own;
-    }
-    x.higher
+    if x.right { x.own } else { x.higher }
 }
 
 fn put_level(
@@ -227,14 +221,14 @@ fn store(starts: &mut [u16], sorts: &mut [u8], k: usize, c: usize)
 // The rules of a pair
 
 // The rule above the one at `own`: the next level's, or the operand rule.
-fn higher_of(own: usize, operand: usize, next: Rank) -> usize
+fn higher_of(own: usize, operand: usize, next: Option<Rank>) -> usize
     requires { own < 65535 }
-    ensures { (next.level < 16 → result ≡ own + 1) × (16 ≤ next.level → result ≡ operand) }
+    ensures { MatchOption next (result ≡ operand) (λ _. result ≡ own + 1) }
 {
-    if next.level < NO_LEVEL {
-        return own + 1;
+    match next {
+        Some(_) => own + 1,
+        None => operand,
     }
-    operand
 }
 
 // Its levels, the lowest first.
@@ -252,24 +246,23 @@ pub fn make_levels(
 {
     let mut rules = q.own;
     let mut count = q.count;
-    let mut l = maker::next_level(text, q.at, 0);
-    while l.level < NO_LEVEL {
+    let mut level = maker::next_level(text, q.at, 0);
+    while let Some(rank) = level {
         if base::RULES <= rules {
             return Made { count, rules };
         }
-        let m = maker::next_level(text, q.at, l.level);
-        let higher = higher_of(rules, q.operand, m);
+        let next = maker::next_level(text, q.at, rank.level);
         let x = Nested {
             at: q.at,
-            level: l.level,
-            right: l.right,
+            level: rank.level,
+            right: rank.right,
             own: rules,
-            higher,
+            higher: higher_of(rules, q.operand, next),
         };
         store(starts, sorts, rules, count);
         count = put_level(text, rows, n, x, cells, count);
         rules += 1;
-        l = m;
+        level = next;
     }
     Made { count, rules }
 }
@@ -305,13 +298,10 @@ pub fn make(
     requires { (length text.now ≤ 65535) × Kept text.now rows.now n × (length cells.old ≤ 60000) × (written.count ≤ length cells.old + 1) × (length starts.old ≡ 128) × (length sorts.old ≡ 128) }
     ensures { MakeDone text.now rows.now n written.rules cells.old written.count starts.old sorts.old cells.new starts.new sorts.new result }
 {
-    let k = base::number(rows, PAIRS);
-    let mut j: usize = 0;
     let mut made = written;
-    while j < k {
+    for j in 0..base::number(rows, PAIRS) {
         let q = site_of(text, rows, j, made.count);
         made = make_levels(text, rows, n, q, cells, starts, sorts);
-        j += 1;
     }
     made
 }
@@ -326,11 +316,10 @@ fn is_use_of(text: &[u8], rows: &[u16], n: usize, w: WordAt, section: usize, ope
     if w.kind != words::CARET {
         return false;
     }
-    let u = maker::read_use(text, rows, n, w.next);
-    if u.section == section {
-        return u.operand == operand;
+    match maker::read_use(text, rows, n, w.next) {
+        Some(u) => u.section == section && u.operand == operand,
+        None => false,
     }
-    false
 }
 
 // What stands from the `^` w to the end of the operand rule's name.
@@ -341,24 +330,19 @@ fn name_of(text: &[u8], w: WordAt) -> Part
     let s = scanner::next_word(text, w.next);
     let c = scanner::next_word(text, s.next);
     let o = scanner::next_word(text, c.next);
-    let end = o.start + o.len;
-    if end < w.start {
-        return Part {
-            start: w.start,
-            len: 0,
-        };
-    }
     Part {
         start: w.start,
-        len: end - w.start,
+        len: (o.start + o.len).saturating_sub(w.start),
     }
 }
 
 fn not_found(at: usize) -> FirstUse
     ensures { result.next ≡ at }
 {
-    let name = Part { start: 0, len: 0 };
-    FirstUse { name, next: at }
+    FirstUse {
+        name: Part { start: 0, len: 0 },
+        next: at,
+    }
 }
 
 // The first use of a section and an operand rule, by their declarations, in the rules from the place `at` on.
@@ -374,17 +358,17 @@ pub fn first_use(
     ensures { FirstDone text.now rows.now n at section operand result }
 {
     let mut i = at;
+    // no range: what is read says where the next begins
     loop {
         let w = scanner::next_word(text, i);
-        if w.kind < words::FIRST_WORD {
-            return not_found(i);
-        }
-        if w.kind == words::END {
+        if w.kind < words::FIRST_WORD || w.kind == words::END {
             return not_found(i);
         }
         if is_use_of(text, rows, n, w, section, operand) {
-            let name = name_of(text, w);
-            return FirstUse { name, next: w.next };
+            return FirstUse {
+                name: name_of(text, w),
+                next: w.next,
+            };
         }
         i = w.next;
     }

@@ -10,7 +10,10 @@ use Rattle.linkage.specs.declared.Body.{Body}
 use Rattle.linkage.specs.declared.Uses.{Uses}
 use Rattle.linker.proofs.Placing.{letters-are}
 use Rattle.linker.specs.Place.{letters, text_at, behind_name, texts_from, texts_end}
-use Rattle.objects.proofs.Looked.{name-at, ends-took}
+use Rattle.std.specs.Prelude as code
+use Rattle.base.specs.Bools as bools
+use Rattle.objects.proofs.Called.{gives-there}
+use Rattle.objects.proofs.Looked.{name-at, ends-took, not-none}
 use Rattle.objects.proofs.TakeLaws.{times-exact}
 use Rattle.objects.proofs.Views.{name-exact, option-exact}
 use Rattle.objects.specs.Places.{EndsAt, Ends}
@@ -52,11 +55,11 @@ names_at words p (n ∷ ns) k e =
     (ap (λ t. t ∷ texts_from words (p + 2 + get_or words (p + 1) 0) (length ns)) (text_is words p n (all name_words ns ++ k) a) ∙ ap (λ ts. n.text ∷ ts) ih.0, omega (arith, y, z, l))
 
 -- they end where the code says
-pub names-end : (words : List ℕ) (p m r : ℕ) → Ends (times m a_name) words p r → p ≤ length words → r ≤ length words → texts_end words p m ≡ r
+pub names-end : (words : List ℕ) (p m r : ℕ) → Ends (times m a_name) words p (code.Some r) → p ≤ length words → r ≤ length words → texts_end words p m ≡ r
 unfolding EndsAt
 names-end words p m r x l h = go (times m a_name (drop p words)) refl x.is
   where
-    go : (t : Taken (List Name)) → times m a_name (drop p words) ≡ t → EndsAt words t r → texts_end words p m ≡ r
+    go : (t : Taken (List Name)) → times m a_name (drop p words) ≡ t → EndsAt words t (code.Some r) → texts_end words p m ≡ r
     go (took ns rest) d e =
         let f = (times-exact name-exact m).forth (drop p words) ns rest d in
         let g = (names_at words p ns rest f.0).1 in
@@ -66,14 +69,15 @@ names-end words p m r x l h = go (times m a_name (drop p words)) refl x.is
         let i = length-drop p words in
         let j = length-drop r words in
         ap (texts_end words p) (sym f.1) ∙ g ∙ omega (arith, a, b, c, i, j, l, h)
-    go missing d e = absurd (omega (arith, e, h))
+    go missing d e = bools.never (sym e)
 
 -- A rule
 
 pub record Parts (words : List ℕ) (v : RuleView) (k : List ℕ) (gives : ℕ) : Type 0 where
   pub inside : gives ≤ length words
-  pub count : (q : ℕ) → Ends an_option words gives q → (q < length words) × (get_or words q 0 ≡ length v.calls)
-  pub calls : (q : ℕ) → Ends an_option words gives q → drop (q + 1) words ≡ all name_words v.calls ++ (length v.cells ∷ (v.cells ++ k))
+  pub there : Ends an_option words gives code.None → ⊥
+  pub count : (q : ℕ) → Ends an_option words gives (code.Some q) → (q < length words) × (get_or words q 0 ≡ length v.calls)
+  pub calls : (q : ℕ) → Ends an_option words gives (code.Some q) → drop (q + 1) words ≡ all name_words v.calls ++ (length v.cells ∷ (v.cells ++ k))
 
 at_first : (words : List ℕ) (q x : ℕ) (xs : List ℕ) → x ∷ xs ≡ drop q words → (q < length words) × (get_or words q 0 ≡ x) × (drop (q + 1) words ≡ xs)
 at_first words q x xs e =
@@ -82,9 +86,9 @@ at_first words q x xs e =
     let n : q + 0 ≡ q = omega arith in
     (omega (arith, l, d), ap (λ (i : ℕ). get_or words i 0) (sym n) ∙ sym (get_or-drop q words 0 0) ∙ ap (λ (ws : List ℕ). get_or ws 0 0) (sym e), sym (drop-drop 1 q words) ∙ ap (λ (ws : List ℕ). drop 1 ws) (sym e))
 
-pub parts : (words : List ℕ) (at gives : ℕ) (v : RuleView) (k : List ℕ) → drop at words ≡ rule_words v ++ k → Ends a_name words at gives → Parts words v k gives
+pub parts : (words : List ℕ) (at gives : ℕ) (v : RuleView) (k : List ℕ) → drop at words ≡ rule_words v ++ k → Ends a_name words at (code.Some gives) → Parts words v k gives
 unfolding rule_words
-parts words at gives v k e x = record { inside = a.1; count = λ q y. let z = at_first words q _ _ (b q y) in (z.0, z.1); calls = λ q y. (at_first words q _ _ (b q y)).2 }
+parts words at gives v k e x = record { inside = a.1; there = not-none v.gives calls₁ option-there; count = λ q y. let z = at_first words q _ _ (b q y) in (z.0, z.1); calls = λ q y. (at_first words q _ _ (b q y)).2 }
   where
     calls₁ : List ℕ
     calls₁ = length v.calls ∷ (all name_words v.calls ++ (length v.cells ∷ (v.cells ++ k)))
@@ -96,18 +100,27 @@ parts words at gives v k e x = record { inside = a.1; count = λ q y. let z = at
     a : (option_words v.gives ++ calls₁ ≡ drop gives words) × (gives ≤ length words)
     a = ends-took v.name (option_words v.gives ++ calls₁) (ap a_name (e ∙ pieces) ∙ name-exact.back v.name tt (option_words v.gives ++ calls₁)) x
 
-    b : (q : ℕ) → Ends an_option words gives q → calls₁ ≡ drop q words
-    b q y = (ends-took v.gives calls₁ (ap an_option (sym a.0) ∙ option-exact.back v.gives tt calls₁) y).0
+    option-there : an_option (drop gives words) ≡ took v.gives calls₁
+    option-there = ap an_option (sym a.0) ∙ option-exact.back v.gives tt calls₁
+
+    b : (q : ℕ) → Ends an_option words gives (code.Some q) → calls₁ ≡ drop q words
+    b q y = (ends-took v.gives calls₁ option-there y).0
+
+-- the names are there
+names-there : (words : List ℕ) (v : RuleView) (k : List ℕ) (p m : ℕ) → drop p words ≡ all name_words v.calls ++ (length v.cells ∷ (v.cells ++ k)) → m ≡ length v.calls → Ends (times m a_name) words p code.None → ⊥
+names-there words v k p m e d x =
+    let b = (times-exact name-exact m).back v.calls (sym d) (length v.cells ∷ (v.cells ++ k)) in
+    not-none v.calls _ (ap (times m a_name) e ∙ b) x
 
 -- the cells stand behind the names
-pub cells_at : (words : List ℕ) (v : RuleView) (k : List ℕ) (p m r : ℕ) → drop p words ≡ all name_words v.calls ++ (length v.cells ∷ (v.cells ++ k)) → m ≡ length v.calls → Ends (times m a_name) words p r
+pub cells_at : (words : List ℕ) (v : RuleView) (k : List ℕ) (p m r : ℕ) → drop p words ≡ all name_words v.calls ++ (length v.cells ∷ (v.cells ++ k)) → m ≡ length v.calls → Ends (times m a_name) words p (code.Some r)
     → (r < length words) × (get_or words r 0 ≡ length v.cells) × (drop (r + 1) words ≡ v.cells ++ k)
 cells_at words v k p m r e d x =
     let b = (times-exact name-exact m).back v.calls (sym d) (length v.cells ∷ (v.cells ++ k)) in
     at_first words r _ _ (ends-took v.calls _ (ap (times m a_name) e ∙ b) x).0
 
 pub is_body : (words : List ℕ) (v : RuleView) (k : List ℕ) (p m r n : ℕ) (uses : Uses) → drop p words ≡ all name_words v.calls ++ (length v.cells ∷ (v.cells ++ k)) → m ≡ length v.calls
-    → Ends (times m a_name) words p r → n ≡ get_or words r 0 → IsBody words v k (record { at = r + 1; count = n; calls = record { at = p; left = m }; uses = uses })
+    → Ends (times m a_name) words p (code.Some r) → n ≡ get_or words r 0 → IsBody words v k (record { at = r + 1; count = n; calls = record { at = p; left = m }; uses = uses })
 is_body words v k p m r n uses e d x z =
     let c = cells_at words v k p m r e d x in
     let s : n ≡ length v.cells = z ∙ c.1 in
@@ -125,15 +138,21 @@ module _ {words : List ℕ} {at : ℕ} where
   unfolding texts_end
   nobody a b c d e f = record { inside = omega (arith, a, b); names = rw (c, d) (omega arith); pairs = e; is = λ v k h. absurd (f v k h) }
 
-  module _ {gives end : ℕ} (x : Ends a_name words at gives) (z : end ≡ length words) where
-    pub no-gives : end < gives → (v : RuleView) (k : List ℕ) → drop at words ≡ rule_words v ++ k → ⊥
-    no-gives l v k e = let h = (parts words at gives v k e x).inside in omega (arith, h, l, z)
+  pub no-name : Ends a_name words at code.None → (v : RuleView) (k : List ℕ) → drop at words ≡ rule_words v ++ k → ⊥
+  no-name x v k e = gives-there words at v k e x
 
-    module _ {calls left : ℕ} (y : Ends an_option words gives calls) (m : left ≡ get_or words calls 0) where
+  module _ {gives end : ℕ} (x : Ends a_name words at (code.Some gives)) (z : end ≡ length words) where
+    pub no-option : Ends an_option words gives code.None → (v : RuleView) (k : List ℕ) → drop at words ≡ rule_words v ++ k → ⊥
+    no-option y v k e = (parts words at gives v k e x).there y
+
+    module _ {calls left : ℕ} (y : Ends an_option words gives (code.Some calls)) (m : left ≡ get_or words calls 0) where
       pub no-calls : end ≤ calls → (v : RuleView) (k : List ℕ) → drop at words ≡ rule_words v ++ k → ⊥
       no-calls l v k e = let h = ((parts words at gives v k e x).count calls y).0 in omega (arith, h, l, z)
 
-      module _ {cells count : ℕ} (w : Ends (times left a_name) words (calls + 1) cells) (n : count ≡ get_or words cells 0) where
+      pub no-names : Ends (times left a_name) words (calls + 1) code.None → (v : RuleView) (k : List ℕ) → drop at words ≡ rule_words v ++ k → ⊥
+      no-names w v k e = let p = parts words at gives v k e x in names-there words v k (calls + 1) left (p.calls calls y) (m ∙ (p.count calls y).1) w
+
+      module _ {cells count : ℕ} (w : Ends (times left a_name) words (calls + 1) (code.Some cells)) (n : count ≡ get_or words cells 0) where
         found : (v : RuleView) (k : List ℕ) → drop at words ≡ rule_words v ++ k → (cells < length words) × (get_or words cells 0 ≡ length v.cells) × (drop (cells + 1) words ≡ v.cells ++ k)
         found v k e = let p = parts words at gives v k e x in cells_at words v k (calls + 1) left cells (p.calls calls y) (m ∙ (p.count calls y).1) w
 

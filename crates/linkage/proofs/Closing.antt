@@ -18,11 +18,12 @@ use Rattle.linker.specs.Place.{text_at, texts_at, place_of, places_for, behind_n
 use Rattle.linkpairs.specs.Standing.{Held, PairAt}
 use Rattle.names.specs.Known as known
 use Rattle.names.specs.Uses.{Use, lowest_of}
-use Rattle.objects.proofs.Looked.{ends-took}
+use Rattle.std.specs.Prelude as code
+use Rattle.objects.proofs.Looked.{ends-took, not-none}
 use Rattle.objects.proofs.TakeLaws.{times-exact}
 use Rattle.objects.proofs.Views.{pair-exact, pairs-length}
 use Rattle.objects.specs.Places.{Ends}
-use Rattle.objects.specs.Take.{times}
+use Rattle.objects.specs.Take.{took, times}
 use Rattle.objects.specs.View.{a_pair, pair_of, pairs_of, all, pair_words}
 
 -- The names of the calls
@@ -70,14 +71,20 @@ pairs-split (u ∷ us) vs k =
     append_assoc (pair_words (pair_of u)) (all pair_words (pairs_of (us ++ vs))) k ∙ ap (λ (x : List ℕ). pair_words (pair_of u) ++ x) (pairs-split us vs k)
     ∙ sym (append_assoc (pair_words (pair_of u)) (all pair_words (pairs_of us)) (all pair_words (pairs_of vs) ++ k))
 
--- it stands behind those before it
-pair-at : (words : List ℕ) (at : ℕ) (us : List Use) (rest : List ℕ) {k p : ℕ} → drop at words ≡ all pair_words (pairs_of us) ++ rest → (x : Kth us k) → Ends (times k a_pair) words at p → PairAt words p x.use₁
+-- those before it are there
+pairs-there : (words : List ℕ) (at : ℕ) (us : List Use) (rest : List ℕ) {k : ℕ} → drop at words ≡ all pair_words (pairs_of us) ++ rest → (x : Kth us k)
+    → times k a_pair (drop at words) ≡ took (pairs_of x.first) (all pair_words (pairs_of (x.use₁ ∷ x.later)) ++ rest)
 unfolding all pairs_of
-pair-at words at us rest {k} {p} e x h =
+pairs-there words at us rest {k} e x =
     let s : drop at words ≡ all pair_words (pairs_of x.first) ++ (all pair_words (pairs_of (x.use₁ ∷ x.later)) ++ rest) =
     e ∙ ap (λ (vs : List Use). all pair_words (pairs_of vs) ++ rest) x.is ∙ pairs-split x.first (x.use₁ ∷ x.later) rest in
-    let b = (times-exact pair-exact k).back (pairs_of x.first) (pairs-length x.first ∙ x.long) (all pair_words (pairs_of (x.use₁ ∷ x.later)) ++ rest) in
-    let t = ends-took (pairs_of x.first) (all pair_words (pairs_of (x.use₁ ∷ x.later)) ++ rest) (ap (times k a_pair) s ∙ b) h in
+    ap (times k a_pair) s ∙ (times-exact pair-exact k).back (pairs_of x.first) (pairs-length x.first ∙ x.long) (all pair_words (pairs_of (x.use₁ ∷ x.later)) ++ rest)
+
+-- it stands behind those before it
+pair-at : (words : List ℕ) (at : ℕ) (us : List Use) (rest : List ℕ) {k p : ℕ} → drop at words ≡ all pair_words (pairs_of us) ++ rest → (x : Kth us k) → Ends (times k a_pair) words at (code.Some p) → PairAt words p x.use₁
+unfolding all pairs_of
+pair-at words at us rest {k} {p} e x h =
+    let t = ends-took (pairs_of x.first) (all pair_words (pairs_of (x.use₁ ∷ x.later)) ++ rest) (pairs-there words at us rest e x) h in
     record { rest = all pair_words (pairs_of x.later) ++ rest; is = sym t.0 ∙ append_assoc (pair_words (pair_of x.use₁)) (all pair_words (pairs_of x.later)) rest }
 
 lowest-kth : (n : known.Names) (own : ℕ) (cs us : List Use) (k : ℕ) (x : Kth us k) → in_row (lowests n own cs us) k ≡ lowest_of n x.use₁ own cs
@@ -97,7 +104,10 @@ module _ {words sites lowest : List ℕ} {r : Uses} {low : ℕ → ℕ} (h : Low
   pub low-none : (k : ℕ) → r.count ≤ k → 0 ≡ low k
   low-none k l = sym (h.is k ∙ get_or-eq_default (lowests h.names h.own h.collected h.uses) 0 {n = k} (omega (arith, h.as_many, lowests-long h.names h.own h.collected h.uses)))
 
-  pub low-found : (k : ℕ) {p x : ℕ} → k < r.count → Ends (times k a_pair) words r.at p
+  pub low-there : (k : ℕ) → k < r.count → Ends (times k a_pair) words r.at code.None → ⊥
+  low-there k l e = let x = kth h.uses k (omega (arith, h.as_many)) in not-none (pairs_of x.first) _ (pairs-there words r.at h.uses h.rest h.stand x) e
+
+  pub low-found : (k : ℕ) {p x : ℕ} → k < r.count → Ends (times k a_pair) words r.at (code.Some p)
       → ((names : known.Names) (own after : ℕ) (us : List Use) (u : Use) → Held words sites lowest names own r.collected after us → PairAt words p u → x ≡ lowest_of names u own us) → x ≡ low k
   low-found k l e f =
       let x = kth h.uses k (omega (arith, h.as_many)) in

@@ -24,11 +24,12 @@ use Rattle.linkpairs.specs.Standing.{Held, ObjectEnds}
 use Rattle.names.specs.Known as known
 use Rattle.names.specs.Uses.{Use}
 use Rattle.objects.proofs.EndsLong.{packed-length}
-use Rattle.objects.proofs.Looked.{ends-took}
+use Rattle.std.specs.Prelude as code
+use Rattle.objects.proofs.Looked.{ends-took, not-none}
 use Rattle.objects.proofs.TakeLaws.{times-exact}
 use Rattle.objects.proofs.Views.{pair-exact, pairs-length, object-words}
 use Rattle.objects.specs.Places.{Ends}
-use Rattle.objects.specs.Take.{times}
+use Rattle.objects.specs.Take.{took, times}
 use Rattle.objects.specs.View as view
 use Rattle.objects.specs.View.{RuleView, View, all, pair_words, rule_words, body_words, view_words, a_pair, view_of, pairs_of, rule_of, names_of}
 use Rattle.objects.specs.Whole as whole
@@ -111,19 +112,20 @@ module _ (words : List ℕ) (at : ℕ) (common : List ℕ) (v : View) (k : List 
       let d = length-append (packed common) (all pair_words v.pairs ++ all rule_words v.rules) in
       omega (arith, a, b, c, d)
 
-  pub is-group : {size pairs count rules at₁ left end collected : ℕ} → end ≡ length words → size ≡ get_or words (at + 3) 0 → pairs ≡ min (at + 7 + size / 2 + size % 2) end → count ≡ get_or words (at + 6) 0
-      → Ends (times count a_pair) words pairs rules → at₁ ≡ min rules end → left ≡ get_or words (at + 5) 0 → IsGroup words v k (record { at = at₁; left = left; uses = record { at = pairs; count = count; collected = collected } })
-  is-group {size} {pairs} {count} {rules} {at₁} {left} {end} z s p c x a l =
+  pub is-group : {size pairs count at₁ left end collected : ℕ} (rules : code.Option ℕ) → end ≡ length words → size ≡ get_or words (at + 3) 0 → pairs ≡ min (at + 7 + size / 2 + size % 2) end → count ≡ get_or words (at + 6) 0
+      → Ends (times count a_pair) words pairs rules → at₁ ≡ code.unwrap_or rules end → left ≡ get_or words (at + 5) 0 → IsGroup words v k (record { at = at₁; left = left; uses = record { at = pairs; count = count; collected = collected } })
+  is-group {size} {pairs} {count} {at₁} {left} {end} rules z s p c x a l =
       let t : size / 2 + size % 2 ≡ length (packed common) = ap (λ i. i / 2 + i % 2) (s ∙ size_is) ∙ sym (packed-length common) in
       let q : pairs ≡ at + 7 + length (packed common) = omega (arith, t, p, z, long) in
       let d : drop pairs words ≡ all pair_words v.pairs ++ (all rule_words v.rules ++ k) =
       ap (λ i. drop i words) q ∙ sym (drop-drop (length (packed common)) (at + 7) words) ∙ ap (drop (length (packed common))) behind-header ∙ drop-append_seam (packed common) _ in
       let m : length v.pairs ≡ count = sym (c ∙ pairs-are) in
       let b = (times-exact pair-exact count).back v.pairs m (all rule_words v.rules ++ k) in
-      let y = ends-took v.pairs (all rule_words v.rules ++ k) (ap (times count a_pair) d ∙ b) x in
-      let h = y.1 in
-      let f : at₁ ≡ rules = omega (arith, a, z, h) in
-      record { pairs = (all rule_words v.rules ++ k, d); pairs_many = m; rules = ap (λ i. drop i words) f ∙ sym y.0; rules_many = sym (l ∙ rules_are) }
+      record { pairs = (all rule_words v.rules ++ k, d); pairs_many = m; rules = go rules x a (ap (times count a_pair) d ∙ b); rules_many = sym (l ∙ rules_are) }
+    where
+      go : (o : code.Option ℕ) → Ends (times count a_pair) words pairs o → at₁ ≡ code.unwrap_or o end → times count a_pair (drop pairs words) ≡ took v.pairs (all rule_words v.rules ++ k) → drop at₁ words ≡ all rule_words v.rules ++ k
+      go code.None y f t = absurd (not-none v.pairs _ t y)
+      go (code.Some r) y f t = ap (λ i. drop i words) f ∙ sym (ends-took v.pairs (all rule_words v.rules ++ k) t y).0
 
 -- The rules of all objects
 

@@ -5,7 +5,8 @@ use mathlib.Core.Option.{Option}
 use mathlib.Core.Path.{◌≡◌, refl, sym, ap, ◌∙◌}
 use native.Mathlib.Omega.{arith}
 use Prim.Native.Nat.{ℕ, suc, ◌+◌, ◌<◌, ◌≤◌, min}
-use lib.ListN.{length, get_or, drop}
+use lib.ListN.{length, get_or, drop, set, length-set}
+use lib.Seq.{get_or-set_same, get_or-set_other}
 use Rattle.base.proofs.Laws.{lt-or-le}
 use Rattle.base.specs.Common.{given}
 use Rattle.cells.specs.Cells.{sort_of}
@@ -29,6 +30,18 @@ sort-none x e z = sym (ap (λ (o : Option Name). sort_of (given o)) (x.absent (s
 pub sort-some : {words : List ℕ} {o : Option Name} {g n : ℕ} → GivesAt words o g → n ≡ get_or words g 0 → (n ≡ 0 → ⊥) → 1 ≡ sort_of (given o)
 unfolding sort_of
 sort-some x e z = let y = x.present (λ d. z (e ∙ d)) in sym (ap (λ (o : Option Name). sort_of (given o)) y.1.0)
+
+-- What is put where there is room
+
+pub put-length : (xs : List ℕ) {xs' : List ℕ} (k x : ℕ) → xs' ≡ set xs k x → length xs' ≡ length xs
+put-length xs k x e = ap length e ∙ length-set xs k x
+
+pub puts : {xs xs' : List ℕ} {k x : ℕ} → xs' ≡ set xs k x → Put xs k x xs'
+puts {xs} {xs'} {k} {x} e = record {
+  same = put-length xs k x e;
+  there = λ l. ap (λ ys. get_or ys k 0) e ∙ get_or-set_same xs k x 0 l;
+  kept = λ j n. ap (λ ys. get_or ys j 0) e ∙ get_or-set_other xs k j x 0 n;
+}
 
 -- Rule by rule
 

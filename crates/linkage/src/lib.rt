@@ -1,14 +1,14 @@
 // Linking as a whole.
 #![tactic(auto)]
 
-ghost use Rattle.std.specs.Prelude.{List, ◌++◌, ◌≡◌, ℕ, ◌+◌, ◌<◌, ◌≤◌, length, take, drop};
+ghost use Rattle.std.specs.Prelude.{List, ◌++◌, ◌≡◌, ℕ, ◌+◌, ◌<◌, ◌≤◌, length, take, drop, slice_set};
 ghost use Rattle.base.specs.Common.{given};
 ghost use Rattle.cells.specs.Cells.{sort_of};
 ghost use Rattle.linkage.specs.Bodies.{BodyAt};
 ghost use Rattle.linkage.specs.Closing.{Lows, places_of, Behind, Turned};
 ghost use Rattle.linkage.specs.Concluded.{IsReady, Concludes};
 ghost use Rattle.linkage.specs.Groups.{GroupAt, ClosesGroup, ClosesAll};
-ghost use Rattle.linkage.specs.Placed.{Placed, Put};
+ghost use Rattle.linkage.specs.Placed.{Placed};
 ghost use Rattle.linkchecks.specs.Row.{row_from};
 ghost use Rattle.linkchecks.specs.Walk.{Viewed};
 ghost use Rattle.linker.specs.Close as close;
@@ -17,7 +17,6 @@ ghost use Rattle.machine.specs.Bytes.{words_of};
 ghost use Rattle.objects.specs.View.{RuleView, View, rule_words};
 ghost use Rattle.resolver.specs.Resolved.{Appends};
 
-use base::{least, wide};
 use frontend::Resolved;
 use levels::Made;
 use linker::{NAME_BYTES, NAME_SIZE};
@@ -37,14 +36,14 @@ const PAIRS: usize = 6;
 const LAST_START: usize = 65535;
 
 // Names that stand one behind the other in the words: `left` of them, from the word `at` on.
-#[derive(Clone, Copy)]
+#[derive(Clone, Copy, Debug, PartialEq, Eq)]
 pub struct Names {
     pub at: usize,
     pub left: usize,
 }
 
 // The pairs of an object, `count` from the word `at` on; how many pairs of all objects are collected.
-#[derive(Clone, Copy)]
+#[derive(Clone, Copy, Debug, PartialEq, Eq)]
 pub struct Uses {
     pub at: usize,
     pub count: usize,
@@ -52,7 +51,7 @@ pub struct Uses {
 }
 
 // A rule in the words of an object: its cells, `count` from the word `at` on; the names of its calls; the pairs of its object.
-#[derive(Clone, Copy)]
+#[derive(Clone, Copy, Debug, PartialEq, Eq)]
 pub struct Body {
     pub at: usize,
     pub count: usize,
@@ -61,7 +60,7 @@ pub struct Body {
 }
 
 // The rules of an object: `left` of them, from the word `at` on; its pairs.
-#[derive(Clone, Copy)]
+#[derive(Clone, Copy, Debug, PartialEq, Eq)]
 pub struct Group {
     pub at: usize,
     pub left: usize,
@@ -69,7 +68,7 @@ pub struct Group {
 }
 
 // Where a pass over the cells stands: the last first cell, how many cells are left behind it, the names of the calls that are left, and what the last cell became.
-#[derive(Clone, Copy)]
+#[derive(Clone, Copy, Debug, PartialEq, Eq)]
 pub struct Spot {
     pub first: u16,
     pub left: usize,
@@ -85,7 +84,9 @@ fn low_of(objects: &[u8], sites: &[usize], lowest: &[u16], uses: Uses, k: usize)
     if k >= uses.count {
         return 0;
     }
-    let p = objects::past_pairs(objects, uses.at, k);
+    let Some(p) = objects::past_pairs(objects, uses.at, k) else {
+        return 0;
+    };
     linkpairs::lowest_at(objects, sites, lowest, uses.collected, p)
 }
 
@@ -104,7 +105,7 @@ fn aimed(
         → result ≡ close.aimed low (places_of (words_of objects.now) names.now calls) mark }
 {
     if mark != 0 {
-        return low_of(objects, sites, lowest, uses, wide(mark - 1));
+        return low_of(objects, sites, lowest, uses, usize::from(mark - 1));
     }
     if calls.left == 0 {
         return 0;
@@ -121,7 +122,7 @@ fn next_names(objects: &[u8], calls: Names) -> Names
         return calls;
     }
     Names {
-        at: calls.at + NAME_BYTES + wide(machine::word(objects, calls.at + NAME_SIZE)),
+        at: calls.at + NAME_BYTES + usize::from(machine::word(objects, calls.at + NAME_SIZE)),
         left: calls.left - 1,
     }
 }
@@ -141,31 +142,29 @@ fn turn(
     ensures end { texts_end (words_of objects.now) result.calls.at result.calls.left ≡ texts_end (words_of objects.now) spot.calls.at spot.calls.left }
     ensures turned { (low : ℕ → ℕ) → Lows (words_of objects.now) sites.now lowest.now uses low → Turned low (words_of objects.now) names.now spot x result }
 {
-    let calls = spot.calls;
     if spot.left == 0 {
-        let left = linker::count_behind(x);
         return Spot {
             first: x,
-            left,
-            calls,
+            left: linker::count_behind(x),
             cell: x,
+            ..spot
         };
     }
     if linker::is_call(spot.first) {
-        let cell = aimed(objects, names, sites, lowest, uses, calls, x);
-        let behind = next_names(objects, calls);
-        return Spot {
-            first: spot.first,
+        let cell = aimed(objects, names, sites, lowest, uses, spot.calls, x);
+        let calls = next_names(objects, spot.calls);
+        Spot {
             left: spot.left - 1,
-            calls: behind,
+            calls,
             cell,
-        };
-    }
-    Spot {
-        first: spot.first,
-        left: spot.left - 1,
-        calls,
-        cell: x,
+            ..spot
+        }
+    } else {
+        Spot {
+            left: spot.left - 1,
+            cell: x,
+            ..spot
+        }
     }
 }
 
@@ -186,8 +185,7 @@ fn close(
         → Appends cells.old from (close.close_cells low (places_of (words_of objects.now) names.now body.calls) (take body.count (drop body.at (words_of objects.now)))) cells.new result }
 {
     let end = body.at + body.count;
-    let mut p = body.at;
-    let mut n = least(from, cells.len() + 1);
+    let mut n = from.min(cells.len() + 1);
     let calls = body.calls;
     let mut spot = Spot {
         first: 0,
@@ -195,11 +193,10 @@ fn close(
         calls,
         cell: 0,
     };
-    while p < end {
+    for p in body.at..end {
         let x = machine::word(objects, p);
         spot = turn(objects, names, sites, lowest, body.uses, spot, x);
         n = resolver::put(cells, n, spot.cell);
-        p = p + 1;
     }
     n
 }
@@ -223,16 +220,19 @@ fn body_at(objects: &[u8], at: usize, uses: Uses) -> Body
     ensures { BodyAt (words_of objects.now) at uses result }
 {
     let end = total(objects);
-    let gives = objects::past_name(objects, at);
-    if gives > end {
+    let Some(gives) = objects::past_name(objects, at) else {
         return no_body(objects, uses);
-    }
-    let calls = objects::past_option(objects, gives);
+    };
+    let Some(calls) = objects::past_option(objects, gives) else {
+        return no_body(objects, uses);
+    };
     if calls >= end {
         return no_body(objects, uses);
     }
     let left = number(objects, calls);
-    let cells = objects::past_names(objects, calls + 1, left);
+    let Some(cells) = objects::past_names(objects, calls + 1, left) else {
+        return no_body(objects, uses);
+    };
     if cells >= end {
         return no_body(objects, uses);
     }
@@ -266,15 +266,12 @@ fn close_object(
     ensures bound { (result ≤ length cells.old + 1) × (length cells.new ≡ length cells.old) }
     ensures closed { ClosesGroup (words_of objects.now) names.now sites.now lowest.now group cells.old from cells.new result }
 {
-    let left = group.left;
     let mut at = group.at;
-    let mut n = least(from, cells.len() + 1);
-    let mut i = 0;
-    while i < left {
+    let mut n = from.min(cells.len() + 1);
+    for _ in 0..group.left {
         let body = body_at(objects, at, group.uses);
         n = close(objects, names, sites, lowest, body, cells, n);
         at = body.at + body.count;
-        i += 1;
     }
     n
 }
@@ -286,11 +283,10 @@ fn group_at(objects: &[u8], at: usize, collected: usize) -> Group
 {
     let end = total(objects);
     let size = number(objects, at + COMMON_SIZE);
-    let pairs = least(at + HEADER + size / 2 + size % 2, end);
+    let pairs = (at + HEADER + size / 2 + size % 2).min(end);
     let count = number(objects, at + PAIRS);
-    let rules = objects::past_pairs(objects, pairs, count);
     Group {
-        at: least(rules, end),
+        at: objects::past_pairs(objects, pairs, count).unwrap_or(end),
         left: number(objects, at + RULES),
         uses: Uses {
             at: pairs,
@@ -316,6 +312,7 @@ pub fn close_all(
     let end = total(objects);
     let mut at = 0;
     let mut n = 0;
+    // no range: what is read says where the next stands
     while at < end {
         let group = group_at(objects, at, collected);
         n = close_object(objects, names, sites, lowest, group, cells, n);
@@ -329,14 +326,13 @@ fn rule_sort(objects: &[u8], at: usize) -> u8
     requires { at ≤ length (words_of objects.now) }
     ensures { (v : RuleView) (k : List ℕ) → drop at (words_of objects.now) ≡ rule_words v ++ k → result ≡ sort_of (given v.gives) }
 {
-    let gives = objects::past_name(objects, at);
+    let Some(gives) = objects::past_name(objects, at) else {
+        return 0;
+    };
     if gives >= total(objects) {
         return 0;
     }
-    if number(objects, gives) == 0 {
-        return 0;
-    }
-    1
+    if number(objects, gives) == 0 { 0 } else { 1 }
 }
 
 // How many cells it has.
@@ -350,24 +346,15 @@ fn rule_size(objects: &[u8], at: usize) -> usize
         collected: 0,
     };
     let end = total(objects);
-    least(body_at(objects, at, uses).count, end)
+    body_at(objects, at, uses).count.min(end)
 }
 
-// The start of rule k, where there is room.
-fn put_start(starts: &mut [u16], k: usize, start: u16)
-    ensures { Put starts.old k start starts.new }
+// What is told of rule k, where there is room.
+fn put_at<T: Copy>(row: &mut [T], k: usize, x: T)
+    ensures { row.new ≡ slice_set row.old k x }
 {
-    if k < starts.len() {
-        starts[k] = start;
-    }
-}
-
-// Its sort.
-fn put_sort(sorts: &mut [u8], k: usize, sort: u8)
-    ensures { Put sorts.old k sort sorts.new }
-{
-    if k < sorts.len() {
-        sorts[k] = sort;
+    if k < row.len() {
+        row[k] = x;
     }
 }
 
@@ -380,11 +367,12 @@ pub fn place_rules(objects: &[u8], common: &[u8], starts: &mut [u16], sorts: &mu
     let mut cursor = linkchecks::first_rule(objects, common);
     let mut k = 0;
     let mut start = 0;
+    // no range: what is read says where the next stands
     while cursor.at < end {
         let sort = rule_sort(objects, cursor.at);
-        put_sort(sorts, k, sort);
-        put_start(starts, k, start as u16);
-        start = least(start + rule_size(objects, cursor.at), LAST_START);
+        put_at(sorts, k, sort);
+        put_at(starts, k, start as u16);
+        start = (start + rule_size(objects, cursor.at)).min(LAST_START);
         cursor = linkchecks::next_rule(objects, common, cursor);
         k += 1;
     }

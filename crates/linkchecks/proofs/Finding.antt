@@ -11,7 +11,9 @@ use lib.ListN.{length, get_or, take, drop, length-drop}
 use lib.Seq.{drop-drop, get_or-drop}
 use Rattle.base.specs.Bools as bools
 use Rattle.base.specs.Common.{same}
-use Rattle.objects.proofs.Looked.{ends-took, name-at}
+use Rattle.std.specs.Prelude as code
+use Rattle.objects.proofs.Called.{gives-there}
+use Rattle.objects.proofs.Looked.{ends-took, not-none, name-at}
 use Rattle.objects.proofs.TakeLaws.{times-exact}
 use Rattle.objects.proofs.Views.{name-exact}
 use Rattle.objects.specs.Places.{Ends, NameAt, HeadsAt, text_at, type_at}
@@ -43,7 +45,7 @@ name-some : (n : Name) → 1 ≤ length (name_words n)
 unfolding name_words
 name-some n = omega arith
 
-pub name-ahead : {words : List ℕ} {at r : ℕ} → Ends a_name words at r → at ≤ length words → at < r
+pub name-ahead : {words : List ℕ} {at r : ℕ} → Ends a_name words at (code.Some r) → at ≤ length words → at < r
 name-ahead y l = before-end name-exact name-some y l
 
 -- A rule
@@ -87,7 +89,7 @@ gives_of words o g k e = go o e
           present = λ _. (n, (refl, name-at words (g + 1) n k (sym (drop-drop 1 g words) ∙ ap (λ (us : List ℕ). drop 1 us) (sym d))));
         }
 
-pub gives_at : (words : List ℕ) (at g : ℕ) (v : RuleView) (k : List ℕ) → drop at words ≡ rule_words v ++ k → Ends a_name words at g → GivesAt words v.gives g
+pub gives_at : (words : List ℕ) (at g : ℕ) (v : RuleView) (k : List ℕ) → drop at words ≡ rule_words v ++ k → Ends a_name words at (code.Some g) → GivesAt words v.gives g
 gives_at words at g v k e y =
     let z = ends-took v.name (behind_name v k) (ap a_name (rule-name words at v k e) ∙ name-exact.back v.name tt (behind_name v k)) y in
     let calls = length v.calls ∷ (all name_words v.calls ++ (length v.cells ∷ v.cells)) in
@@ -173,7 +175,15 @@ module _ {common words : List ℕ} {vs : List View} where
 
   -- The first rule's type
 
-  module _ {c : Cursor} {row : List Item} (s : Stands common words vs c row) {g : ℕ} (y : Ends a_name words c.at g) where
+  pub untyped : {c : Cursor} {row : List Item} → Stands common words vs c row → Ends a_name words c.at code.None → typed_first row ≡ none
+  unfolding typed_first
+  untyped {c} {row} s y = go row s
+    where
+      go : (row : List Item) → Stands common words vs c row → typed_first row ≡ none
+      go [] s = refl
+      go (x ∷ row) s = let h = stands-rule s in absurd (gives-there words c.at x.rule h.0 h.1 y)
+
+  module _ {c : Cursor} {row : List Item} (s : Stands common words vs c row) {g : ℕ} (y : Ends a_name words c.at (code.Some g)) where
     pub typed-outside : length words ≤ g → typed_first row ≡ none
     unfolding typed_first
     typed-outside l = go row s
@@ -336,7 +346,8 @@ module _ (words : List ℕ) (f : Name → Option Shown) (b : Option Shown) (rest
     pub tail : List ℕ
     pub here : drop q words ≡ name_words first ++ tail
     pub is : b ≡ or_shown (f first) (first_shown f later)
-    pub behind : (r : ℕ) → Ends a_name words q r → (r ≤ length words) × (times m a_name (drop r words) ≡ took later rest)
+    pub there : Ends a_name words q code.None → ⊥
+    pub behind : (r : ℕ) → Ends a_name words q (code.Some r) → (r ≤ length words) × (times m a_name (drop r words) ≡ took later rest)
 
 module _ {words : List ℕ} {f : Name → Option Shown} {b : Option Shown} {rest : List ℕ} where
   pub asking : {m q : ℕ} (n at : ℕ) (ns : List Name) → m ≡ n → q ≡ at → times n a_name (drop at words) ≡ took ns rest → b ≡ first_shown f ns → Asking words f b rest m q
@@ -367,6 +378,7 @@ module _ {words : List ℕ} {f : Name → Option Shown} {b : Option Shown} {rest
             tail = more;
             here = here;
             is = h;
+            there = not-none n more (ap a_name here ∙ name-exact.back n tt more);
             behind = λ r y.
                 let z = ends-took n more (ap a_name here ∙ name-exact.back n tt more) y in
                 (z.1, ap (times m a_name) (sym z.0) ∙ (times-exact name-exact m).back ns (omega (arith, l)) rest);
@@ -380,7 +392,7 @@ module _ {words : List ℕ} {f : Name → Option Shown} {b : Option Shown} {rest
   unfolding or_shown
   asked_here x r s e h = subst (λ o. Shows o r) (sym (x.is ∙ ap (λ o. or_shown o (first_shown f x.later)) e)) h
 
-  pub asked-passed : {m q : ℕ} (x : Asks words f b rest m q) → f x.first ≡ none → (r : ℕ) → Ends a_name words q r → Asking words f b rest m r
+  pub asked-passed : {m q : ℕ} (x : Asks words f b rest m q) → f x.first ≡ none → (r : ℕ) → Ends a_name words q (code.Some r) → Asking words f b rest m r
   unfolding or_shown
   asked-passed x e r y = record { left = x.later; taken = (x.behind r y).1; is = x.is ∙ ap (λ o. or_shown o (first_shown f x.later)) e }
 

@@ -7,7 +7,9 @@ use lib.ListN.{length, get_or, drop, length-append, length-drop, drop_of_length-
 use lib.Seq.{drop-drop, get_or-drop, drop-append_seam}
 use Rattle.acceptance.proofs.Shape.{Each, NotEmpty}
 use Rattle.objects.proofs.EndsLong.{packed-length, ahead}
-use Rattle.objects.proofs.Looked.{ends-took}
+use Rattle.base.specs.Bools as bools
+use Rattle.std.specs.Prelude.{Some, None}
+use Rattle.objects.proofs.Looked.{ends-took, not-none}
 use Rattle.objects.proofs.TakeLaws.{Exact, times-exact}
 use Rattle.objects.proofs.Views.{pair-exact, rule-exact}
 use Rattle.objects.specs.Places.{EndsAt, Ends}
@@ -22,11 +24,11 @@ pub no-cons {ℓ} : {A : Type 0} {B : Type ℓ} {x : A} {xs : List A} → x ∷ 
 no-cons e = let z = ap length e in absurd (omega (arith, z))
 
 -- what is written of some words stands before itself
-pub before-end : {A : Type 0} {m : Taker A} {w : A → List ℕ} {P : A → Type 0} {words : List ℕ} {at r : ℕ} → Exact m w P → ((a : A) → 1 ≤ length (w a)) → Ends m words at r → at ≤ length words → at < r
+pub before-end : {A : Type 0} {m : Taker A} {w : A → List ℕ} {P : A → Type 0} {words : List ℕ} {at r : ℕ} → Exact m w P → ((a : A) → 1 ≤ length (w a)) → Ends m words at (Some r) → at ≤ length words → at < r
 unfolding EndsAt
 before-end {A} {m} {w} {P} {words} {at} {r} x f y l = go (m (drop at words)) refl y.is
   where
-    go : (t : Taken A) → m (drop at words) ≡ t → EndsAt words t r → at < r
+    go : (t : Taken A) → m (drop at words) ≡ t → EndsAt words t (Some r) → at < r
     go (took a rest) d e =
         let z = ap length (x.forth (drop at words) a rest d).0 in
         let n = length-append (w a) rest in
@@ -36,17 +38,17 @@ before-end {A} {m} {w} {P} {words} {at} {r} x f y l = go (m (drop at words)) ref
         let j = length-drop r words in
         let h = e.1 in
         omega (arith, z, n, s, k, i, j, h, l)
-    go missing d e = omega (arith, e, l)
+    go missing d e = bools.never (sym e)
 
 pub rule-some : (r : RuleView) → 1 ≤ length (rule_words r)
 unfolding rule_words name_words
 rule-some r = omega arith
 
 -- a rule takes words
-pub rule-ahead : {words : List ℕ} {at r : ℕ} → Ends a_rule words at r → at ≤ length words → at < r
+pub rule-ahead : {words : List ℕ} {at r : ℕ} → Ends a_rule words at (Some r) → at ≤ length words → at < r
 rule-ahead y l = before-end rule-exact rule-some y l
 
-pub pairs-ahead : (n : ℕ) {words : List ℕ} {at r : ℕ} → Ends (times n a_pair) words at r → at ≤ length words → at ≤ r
+pub pairs-ahead : (n : ℕ) {words : List ℕ} {at r : ℕ} → Ends (times n a_pair) words at (Some r) → at ≤ length words → at ≤ r
 pairs-ahead n y l = ahead (times-exact pair-exact n) y l
 
 all_none : (words : List ℕ) (at : ℕ) → length words ≤ at → drop at words ≡ []
@@ -61,6 +63,10 @@ first_pair_at common at = at + 7 + length common / 2 + length common % 2
 abbrev all_views : List ℕ → List View → List ℕ
 all_views common us = all (view_words common) us
 
+-- what stands behind the pairs of the first
+abbrev behind_pairs : List ℕ → View → List View → List ℕ
+behind_pairs common v left = all rule_words v.rules ++ all_views common left
+
 module _ (common words : List ℕ) (vs : List View) where
   record Header (at : ℕ) (v : View) (more : List ℕ) : Type 0 where
     pub long : first_pair_at common at ≤ length words
@@ -70,8 +76,7 @@ module _ (common words : List ℕ) (vs : List View) where
     pub behind : drop (first_pair_at common at) words ≡ all pair_words v.pairs ++ (all rule_words v.rules ++ more)
 
   -- the place behind the pairs
-  pub record Entered (c : Cursor) (left : List View) (n size rules r : ℕ) : Type 0 where
-    pub near : r ≤ length words
+  pub record Entered (c : Cursor) (left : List View) (size rules r : ℕ) : Type 0 where
     pub stands : size ≡ get_or words (c.at + 4) 0 → rules ≡ get_or words (c.at + 5) 0
         → Stands common words vs (record { text = c.text + 1; size = size; at = r; left = rules }) (row_from (suc c.text) left)
 
@@ -147,20 +152,28 @@ module _ {common words : List ℕ} {vs : List View} where
   enters_none c [] end x l n = let k = x.count in over c.text c.size end (omega (arith, n)) (omega (arith, k)) x.last
   enters_none c (v ∷ left) end x l n = let y = (header c.at v (all_views common left) x.here).long in absurd (omega (arith, y, l))
 
+  pairs-taken : (at : ℕ) (v : View) (left : List View) (n : ℕ) → Header common words vs at v (all_views common left) → n ≡ get_or words (at + 6) 0
+      → times n a_pair (drop (first_pair_at common at) words) ≡ took v.pairs (behind_pairs common v left)
+  pairs-taken at v left n h d =
+      ap (λ i. times i a_pair (drop (first_pair_at common at) words)) (d ∙ h.pairs) ∙ ap (times (length v.pairs) a_pair) h.behind ∙ (times-exact pair-exact (length v.pairs)).back v.pairs refl (behind_pairs common v left)
+
+  pub enters-there : (c : Cursor) (left : List View) (n : ℕ) → Before common words vs c left → first_pair_at common c.at ≤ length words → n ≡ get_or words (c.at + 6) 0
+      → Ends (times n a_pair) words (first_pair_at common c.at) None → ⊥
+  unfolding all
+  enters-there c [] n x l d y = no_words words c.at (omega (arith, l)) x.here
+  enters-there c (v ∷ left) n x l d y = not-none v.pairs (behind_pairs common v left) (pairs-taken c.at v left n (header c.at v (all_views common left) x.here) d) y
+
   pub enters : (c : Cursor) (left : List View) (n size rules r : ℕ) → Before common words vs c left → first_pair_at common c.at ≤ length words → n ≡ get_or words (c.at + 6) 0
-      → Ends (times n a_pair) words (first_pair_at common c.at) r → Entered common words vs c left n size rules r
+      → Ends (times n a_pair) words (first_pair_at common c.at) (Some r) → Entered common words vs c left size rules r
   unfolding all row_from last_size Each NotEmpty
   enters c [] n size rules r x l d y = absurd (no_words words c.at (omega (arith, l)) x.here)
-  enters c (v ∷ left) n size rules r x l d y = record { near = behind.1; stands = stands }
+  enters c (v ∷ left) n size rules r x l d y = record { stands = stands }
     where
       h : Header common words vs c.at v (all_views common left)
       h = header c.at v (all_views common left) x.here
 
-      rest : List ℕ
-      rest = all rule_words v.rules ++ all_views common left
-
-      behind : (rest ≡ drop r words) × (r ≤ length words)
-      behind = ends-took v.pairs rest (ap (λ i. times i a_pair (drop (first_pair_at common c.at) words)) (d ∙ h.pairs) ∙ ap (times (length v.pairs) a_pair) h.behind ∙ (times-exact pair-exact (length v.pairs)).back v.pairs refl rest) y
+      behind : (behind_pairs common v left ≡ drop r words) × (r ≤ length words)
+      behind = ends-took v.pairs (behind_pairs common v left) (pairs-taken c.at v left n h d) y
 
       some_rule : (rs : List RuleView) → NotEmpty rs → 1 ≤ length rs
       some_rule [] n = absurd n
@@ -213,12 +226,19 @@ module _ {common words : List ℕ} {vs : List View} where
             are = q;
           }
 
-  module _ {c : Cursor} {x : Item} {row : List Item} (s : Steps common words vs c x row) {at : ℕ} (y : Ends a_rule words c.at at) where
+  module _ {c : Cursor} {x : Item} {row : List Item} (s : Steps common words vs c x row) where
     abbrev tail : List ℕ
     tail = all rule_words s.later ++ all_views common s.views
 
-    behind-rule : (tail ≡ drop at words) × (at ≤ length words)
-    behind-rule = ends-took x.rule tail (ap a_rule s.here ∙ rule-exact.back x.rule tt tail) y
+    rule-there : a_rule (drop c.at words) ≡ took x.rule tail
+    rule-there = ap a_rule s.here ∙ rule-exact.back x.rule tt tail
+
+    pub rule-ends : Ends a_rule words c.at None → ⊥
+    rule-ends y = not-none x.rule tail rule-there y
+
+  module _ {c : Cursor} {x : Item} {row : List Item} (s : Steps common words vs c x row) {at : ℕ} (y : Ends a_rule words c.at (Some at)) where
+    behind-rule : (tail s ≡ drop at words) × (at ≤ length words)
+    behind-rule = ends-took x.rule (tail s) (rule-there s) y
 
     -- the last of all
     pub next-over : (end : ℕ) → end ≡ length words → length words ≤ at → Stands common words vs (record { text = c.text; size = c.size; at = end; left = 0 }) row

@@ -16,7 +16,6 @@ ghost use Rattle.linkchecks.specs.Checks.{Finds, Shows, name_at};
 ghost use Rattle.linkchecks.specs.Row.{Item, row_from, last_size, first_shown, is_named_below, type_agrees, line_of, open_name, unlike_rule};
 ghost use Rattle.linkchecks.specs.Walk.{Viewed, Before, Stands};
 
-use base::wide;
 use objects::{
     HEAD_NUMBERS, is_part, number, past_name, past_option, past_pairs, past_rule, same_names, total,
 };
@@ -42,7 +41,7 @@ const HEAD_TYPE_SIZE: usize = 3;
 
 // A place between the rules of objects, `at`: the object's number from 1 on, the size of its part, how many of its rules are left. At the end of the words
 // no rule is left.
-#[derive(Clone, Copy)]
+#[derive(Clone, Copy, Debug, PartialEq, Eq)]
 pub struct Cursor {
     pub text: usize,
     pub size: usize,
@@ -51,7 +50,7 @@ pub struct Cursor {
 }
 
 // What a check shows: a part of a text, or nothing.
-#[derive(Clone, Copy)]
+#[derive(Clone, Copy, Debug, PartialEq, Eq)]
 pub struct Found {
     pub there: bool,
     pub text: usize,
@@ -67,19 +66,17 @@ fn enter(objects: &[u8], common: &[u8], cursor: Cursor) -> Cursor
 {
     let end = total(objects);
     let over = Cursor {
-        text: cursor.text,
-        size: cursor.size,
         at: end,
         left: 0,
+        ..cursor
     };
     let pairs = cursor.at + HEADER + common.len() / 2 + common.len() % 2;
     if pairs > end {
         return over;
     }
-    let rules = past_pairs(objects, pairs, number(objects, cursor.at + PAIRS));
-    if rules > end {
+    let Some(rules) = past_pairs(objects, pairs, number(objects, cursor.at + PAIRS)) else {
         return over;
-    }
+    };
     Cursor {
         text: cursor.text + 1,
         size: number(objects, cursor.at + PART_SIZE),
@@ -112,37 +109,37 @@ pub fn next_rule(objects: &[u8], common: &[u8], cursor: Cursor) -> Cursor
         × ((vs : List View) (x : Item) (row : List Item) → Stands common.now (words_of objects.now) vs cursor (x ∷ row) → Stands common.now (words_of objects.now) vs result row) }
 {
     let end = total(objects);
-    let at = past_rule(objects, cursor.at);
-    if at >= end {
-        return Cursor {
-            text: cursor.text,
-            size: cursor.size,
-            at: end,
-            left: 0,
-        };
+    let over = Cursor {
+        at: end,
+        left: 0,
+        ..cursor
+    };
+    let Some(at) = past_rule(objects, cursor.at) else {
+        return over;
+    };
+    if at == end {
+        return over;
     }
     if cursor.left > 1 {
         return Cursor {
-            text: cursor.text,
-            size: cursor.size,
             at,
             left: cursor.left - 1,
+            ..cursor
         };
     }
     enter(
         objects,
         common,
         Cursor {
-            text: cursor.text,
-            size: cursor.size,
             at,
             left: 0,
+            ..cursor
         },
     )
 }
 
 // How many objects there are and how many rules in all, and the size of the last object's part.
-#[derive(Clone, Copy)]
+#[derive(Clone, Copy, Debug, PartialEq, Eq)]
 struct Totals {
     objects: usize,
     rules: usize,
@@ -156,6 +153,7 @@ fn count_all(objects: &[u8], common: &[u8]) -> Totals
     let end = total(objects);
     let mut cursor = first_rule(objects, common);
     let mut rules = 0;
+    // no range: a rule says where the next stands
     while cursor.at < end {
         cursor = next_rule(objects, common, cursor);
         rules += 1;
@@ -218,13 +216,11 @@ fn found_at(objects: &[u8], text: usize, p: usize) -> Found
 pub fn first_typed(objects: &[u8], common: &[u8]) -> Found
     ensures { (c : Common) (n : Names) (h : AreObjects common.now c n (words_of objects.now)) → Finds (first_typed (rules_of h.objects)) result }
 {
-    let end = total(objects);
     let cursor = first_rule(objects, common);
-    let gives = past_name(objects, cursor.at);
-    if gives >= end {
+    let Some(gives) = past_name(objects, cursor.at) else {
         return nothing();
-    }
-    if number(objects, gives) == 0 {
+    };
+    if gives == total(objects) || number(objects, gives) == 0 {
         return nothing();
     }
     found_at(objects, 1, cursor.at)
@@ -235,10 +231,7 @@ fn has_name(objects: &[u8], cursor: Cursor, below: usize, p: usize) -> bool
     requires { (cursor.at ≤ length (words_of objects.now)) × (p ≤ length (words_of objects.now)) }
     ensures { (n m : Name) → NameAt (words_of objects.now) cursor.at n → NameAt (words_of objects.now) p m → result ≡ (ltb cursor.text below && same m.text n.text) }
 {
-    if cursor.text >= below {
-        return false;
-    }
-    same_names(objects, p, cursor.at)
+    cursor.text < below && same_names(objects, p, cursor.at)
 }
 
 // A rule of a text before the text `below` has the name at p.
@@ -248,6 +241,7 @@ fn is_named(objects: &[u8], common: &[u8], below: usize, p: usize) -> bool
 {
     let end = total(objects);
     let mut cursor = first_rule(objects, common);
+    // no range: a rule says where the next stands
     while cursor.at < end {
         if has_name(objects, cursor, below, p) {
             return true;
@@ -263,16 +257,14 @@ fn find_line(objects: &[u8], p: usize, common: &[u8], heads: &[u16]) -> usize
     ensures { (result ≤ length heads.now / 4) × ((hs : List Head) (n : Name) → HeadsAt common.now heads.now hs → NameAt (words_of objects.now) p n → result ≡ line_of n.text hs) }
 {
     let count = heads.len() / HEAD_NUMBERS;
-    let mut i = 0;
-    while i < count {
-        let start = wide(heads[HEAD_NUMBERS * i]);
-        let size = wide(heads[HEAD_NUMBERS * i + HEAD_SIZE]);
+    for i in 0..count {
+        let start = usize::from(heads[HEAD_NUMBERS * i]);
+        let size = usize::from(heads[HEAD_NUMBERS * i + HEAD_SIZE]);
         if is_part(objects, p, common, start, size) {
             return i;
         }
-        i += 1;
     }
-    i
+    count
 }
 
 // The rule at a place is of the sort and type that the list says.
@@ -282,8 +274,10 @@ fn is_alike(objects: &[u8], at: usize, common: &[u8], heads: &[u16]) -> bool
 {
     let count = heads.len() / HEAD_NUMBERS;
     let line = find_line(objects, at, common, heads);
-    let gives = past_name(objects, at);
-    if gives >= total(objects) {
+    let Some(gives) = past_name(objects, at) else {
+        return false;
+    };
+    if gives == total(objects) {
         return false;
     }
     if number(objects, gives) == 0 {
@@ -292,8 +286,8 @@ fn is_alike(objects: &[u8], at: usize, common: &[u8], heads: &[u16]) -> bool
     if line == count {
         return false;
     }
-    let start = wide(heads[HEAD_NUMBERS * line + HEAD_TYPE]);
-    let size = wide(heads[HEAD_NUMBERS * line + HEAD_TYPE_SIZE]);
+    let start = usize::from(heads[HEAD_NUMBERS * line + HEAD_TYPE]);
+    let size = usize::from(heads[HEAD_NUMBERS * line + HEAD_TYPE_SIZE]);
     is_part(objects, gives + 1, common, start, size)
 }
 
@@ -305,16 +299,14 @@ fn open_name(objects: &[u8], common: &[u8], text: usize, at: usize, n: usize) ->
 {
     let end = total(objects);
     let mut q = at;
-    let mut i = 0;
-    while i < n {
+    for _ in 0..n {
         if !is_named(objects, common, end + 1, q) {
             return found_at(objects, text, q);
         }
-        q = past_name(objects, q);
-        if q > end {
+        let Some(next) = past_name(objects, q) else {
             return nothing();
-        }
-        i += 1;
+        };
+        q = next;
     }
     nothing()
 }
@@ -325,13 +317,13 @@ fn open_call(objects: &[u8], common: &[u8], text: usize, at: usize) -> Found
     ensures { (vs : List View) (v : RuleView) (k : List ℕ) → Viewed common.now (words_of objects.now) vs → drop at (words_of objects.now) ≡ rule_words v ++ k
         → Shows (first_shown (open_name (length (words_of objects.now) + 1) (row_from 1 vs) text) v.calls) result }
 {
-    let end = total(objects);
-    let gives = past_name(objects, at);
-    if gives > end {
+    let Some(gives) = past_name(objects, at) else {
         return nothing();
-    }
-    let calls = past_option(objects, gives);
-    if calls >= end {
+    };
+    let Some(calls) = past_option(objects, gives) else {
+        return nothing();
+    };
+    if calls == total(objects) {
         return nothing();
     }
     open_name(objects, common, text, calls + 1, number(objects, calls))
@@ -356,6 +348,7 @@ pub fn find_unlike(objects: &[u8], common: &[u8], heads: &[u16]) -> Found
 {
     let end = total(objects);
     let mut cursor = first_rule(objects, common);
+    // no range: a rule says where the next stands
     while cursor.at < end {
         let found = unlike_rule(objects, common, heads, cursor);
         if found.there {
@@ -372,6 +365,7 @@ pub fn find_twice(objects: &[u8], common: &[u8]) -> Found
 {
     let end = total(objects);
     let mut cursor = first_rule(objects, common);
+    // no range: a rule says where the next stands
     while cursor.at < end {
         if is_named(objects, common, cursor.text, cursor.at) {
             return found_at(objects, cursor.text, cursor.at);
@@ -388,6 +382,7 @@ pub fn past_limit(objects: &[u8], common: &[u8], left: usize) -> Found
     let end = total(objects);
     let mut cursor = first_rule(objects, common);
     let mut i = 0;
+    // no range: a rule says where the next stands
     while cursor.at < end {
         if i == left {
             return found_at(objects, cursor.text, cursor.at);
@@ -416,6 +411,7 @@ pub fn name_places(objects: &[u8], common: &[u8], names: &mut [usize]) -> usize
     let end = total(objects);
     let mut cursor = first_rule(objects, common);
     let mut i = 0;
+    // no range: a rule says where the next stands
     while cursor.at < end {
         put_place(names, i, cursor.at);
         cursor = next_rule(objects, common, cursor);

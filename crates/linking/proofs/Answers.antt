@@ -11,6 +11,7 @@ use lib.Seq.{take_at}
 use Rattle.std.specs.Prelude.{if◌then◌else◌}
 use Rattle.figure.specs.Told.{Told, untold, told_if}
 use Rattle.finishing.specs.Test.{finishing}
+use Rattle.std.specs.Prelude.{Some, None}
 use Rattle.linking.specs.Answered.{AreBytes, no_objects, joined, linked_as, Leaves, Links}
 use Rattle.linking.specs.Linking.{Rowed, checked, Passed, Finds, faulty, passed, behind_checks, Sound, LinksSound}
 use Rattle.linking.specs.declared.Fault.{Fault}
@@ -127,41 +128,41 @@ module _ {common rows : List ℕ} (objects : List ℕ) {shared : Shared} {c : Co
       let z : good + 1 ≡ 1 + good_views c.listed n common (length (words_of objects)) (words_of objects) = omega (arith, g) in
       record { answer = _; answers = no_objects x.is (λ a. decides.no_objects f a.even a.are); leaves = rw z at l }
 
-  -- a fault of any reading is that of every reading
-  module _ (t : ok ≡ true) {f : Fault} (finds : (h : AreObjects common c n (words_of objects)) → Finds common c h.objects f) where
-    fault-is : (f.number ≡ 0 → ⊥) → (h : AreObjects common c n (words_of objects)) (room : ℕ) → refusal f ≡ link common c n (replicate {A = ℕ} (last_length h.lengths) 0) h.objects room
-    fault-is z h room = go (finds h)
+  module _ (t : ok ≡ true) where
+    -- a fault of any reading is that of every reading
+    fault-is : {f : Fault} → ((h : AreObjects common c n (words_of objects)) → Finds common c h.objects (Some f)) → (h : AreObjects common c n (words_of objects)) (room : ℕ)
+        → refusal f ≡ link common c n (replicate {A = ℕ} (last_length h.lengths) 0) h.objects room
+    fault-is {f} finds h room = go (finds h)
       where
         last : List ℕ
         last = replicate {A = ℕ} (last_length h.lengths) 0
 
-        go : Finds common c h.objects f → refusal f ≡ link common c n last h.objects room
+        go : Finds common c h.objects (Some f) → refusal f ≡ link common c n last h.objects room
         go (faulty k g) = sym (link-is common c n last h.objects room ∙ g (behind_checks c n last h.objects room))
-        go (passed k p) = absurd (z k)
 
-    pub one-fault : (f.number ≡ 0 → ⊥) → {old new : List ℕ} {r : code.Linked} → Leaves (refusal f) old new r → Links common objects old new r
-    one-fault z {old} l = record { answer = refusal f; answers = joined x.is (are_bytes t) (λ h. fault-is z h (count old)); leaves = l }
+    pub one-fault : {f : Fault} → ((h : AreObjects common c n (words_of objects)) → Finds common c h.objects (Some f)) → {old new : List ℕ} {r : code.Linked} → Leaves (refusal f) old new r → Links common objects old new r
+    one-fault {f} finds {old} l = record { answer = refusal f; answers = joined x.is (are_bytes t) (λ h. fault-is finds h (count old)); leaves = l }
 
-    pub all-passed : f.number ≡ 0 → (h : AreObjects common c n (words_of objects)) → Passed common c h.objects
-    all-passed z h = go (finds h)
-      where
-        go : Finds common c h.objects f → Passed common c h.objects
-        go (faulty k g) = absurd (k z)
-        go (passed k p) = p
+    module _ (finds : (h : AreObjects common c n (words_of objects)) → Finds common c h.objects None) where
+      pub all-passed : (h : AreObjects common c n (words_of objects)) → Passed common c h.objects
+      all-passed h = go (finds h)
+        where
+          go : Finds common c h.objects None → Passed common c h.objects
+          go (passed p) = p
 
-    pub sound : f.number ≡ 0 → Sound common rows objects shared
-    sound z = let h = (are_bytes t).are in record { common_is = c; names = n; rowed = x; are = h; passes = all-passed z h }
+      pub sound : Sound common rows objects shared
+      sound = let h = (are_bytes t).are in record { common_is = c; names = n; rowed = x; are = h; passes = all-passed h }
 
-    -- what was left is linked, for every reading
-    pub rules-linked : f.number ≡ 0 → {old new : List ℕ} {r : code.Linked} → LinksSound common rows objects shared old new r → Links common objects old new r
-    rules-linked z {old} {new} {r} l =
-        let h = (are_bytes t).are in
-        let answer = behind_checks c n (replicate {A = ℕ} (last_length h.lengths) 0) h.objects (count old) in
-        record { answer = answer; answers = joined x.is (are_bytes t) same_answer; leaves = l c n x h (all-passed z h) }
-      where
-        same_answer : (h : AreObjects common c n (words_of objects)) → behind_checks c n (replicate {A = ℕ} (last_length (are_bytes t).are.lengths) 0) (are_bytes t).are.objects (count old) ≡ link common c n (replicate {A = ℕ} (last_length h.lengths) 0) h.objects (count old)
-        same_answer h =
-            let h₀ = (are_bytes t).are in
-            let last = replicate {A = ℕ} (last_length h.lengths) 0 in
-            same_left _ _ (behind-shows c n (replicate {A = ℕ} (last_length h₀.lengths) 0) h₀.objects (count old)) (behind-shows c n last h.objects (count old)) (l c n x h₀ (all-passed z h₀)) (l c n x h (all-passed z h))
-            ∙ sym (link-is common c n last h.objects (count old) ∙ passed_on common c h.objects (behind_checks c n last h.objects (count old)) (all-passed z h))
+      -- what was left is linked, for every reading
+      pub rules-linked : {old new : List ℕ} {r : code.Linked} → LinksSound common rows objects shared old new r → Links common objects old new r
+      rules-linked {old} {new} {r} l =
+          let h = (are_bytes t).are in
+          let answer = behind_checks c n (replicate {A = ℕ} (last_length h.lengths) 0) h.objects (count old) in
+          record { answer = answer; answers = joined x.is (are_bytes t) same_answer; leaves = l c n x h (all-passed h) }
+        where
+          same_answer : (h : AreObjects common c n (words_of objects)) → behind_checks c n (replicate {A = ℕ} (last_length (are_bytes t).are.lengths) 0) (are_bytes t).are.objects (count old) ≡ link common c n (replicate {A = ℕ} (last_length h.lengths) 0) h.objects (count old)
+          same_answer h =
+              let h₀ = (are_bytes t).are in
+              let last = replicate {A = ℕ} (last_length h.lengths) 0 in
+              same_left _ _ (behind-shows c n (replicate {A = ℕ} (last_length h₀.lengths) 0) h₀.objects (count old)) (behind-shows c n last h.objects (count old)) (l c n x h₀ (all-passed h₀)) (l c n x h (all-passed h))
+              ∙ sym (link-is common c n last h.objects (count old) ∙ passed_on common c h.objects (behind_checks c n last h.objects (count old)) (all-passed h))

@@ -5,9 +5,9 @@ use mathlib.Core.Option.{Option, none, some}
 use mathlib.Core.Path.{◌≡◌, refl, sym, ap, ◌∙◌}
 use native.Mathlib.Omega.{arith}
 use Prim.Native.Nat.{ℕ, min}
-use borrow.Author.Tests.{ne_eqb}
 use lib.Dec.{eqb, ltb}
 use lib.ListN.{length}
+use Rattle.std.specs.Prelude.{Some, None}
 use Rattle.linkchecks.specs.Checks as checks
 use Rattle.linkchecks.specs.declared.Found as shown
 use Rattle.linking.specs.Linking.{checked, Finds, faulty, passed}
@@ -43,14 +43,14 @@ pub right-number : (os : List Object) {count : ℕ} {t : Bool} → count ≡ len
 right-number os k d e = ap (λ (i : ℕ). eqb i 0 || ltb 16 i) (sym k) ∙ sym d ∙ e
 
 module _ (common : List ℕ) (c : Common) (os : List Object) where
-  pub wrong-number : {count : ℕ} {t : Bool} {r : Fault} → count ≡ length os → t ≡ (eqb count 0 || ltb 16 count) → t ≡ true → r.number ≡ 9 → r.text ≡ 0 → r.start ≡ length common → r.len ≡ 0 → Finds common c os r
+  pub wrong-number : {count : ℕ} {t : Bool} {r : Fault} → count ≡ length os → t ≡ (eqb count 0 || ltb 16 count) → t ≡ true → r.number ≡ 9 → r.text ≡ 0 → r.start ≡ length common → r.len ≡ 0 → Finds common c os (Some r)
   unfolding checked part_of end_of
   wrong-number {count} {t} {r} k d e a b f g =
       let z : (eqb (length os) 0 || ltb 16 (length os)) ≡ true = ap (λ (i : ℕ). eqb i 0 || ltb 16 i) (sym k) ∙ sym d ∙ e in
       faulty (λ x. omega (arith, x, a)) (λ other. rw (z, a, b, f, g) refl)
 
   module _ (number : (eqb (length os) 0 || ltb 16 (length os)) ≡ false) (x₁ : shown.Found) (typed : checks.Finds (first_typed (rules_of os)) x₁) where
-    pub typed-first : {r : Fault} → x₁.there ≡ true → Tells 5 x₁ r → Finds common c os r
+    pub typed-first : {r : Fault} → x₁.there ≡ true → Tells 5 x₁ r → Finds common c os (Some r)
     unfolding checked
     typed-first e t = faulty (λ z. let y = t.number in omega (arith, z, y)) (λ other. rw number (found-there (first_typed (rules_of os)) typed e t _))
 
@@ -58,7 +58,7 @@ module _ (common : List ℕ) (c : Common) (os : List Object) where
       n₁ : first_typed (rules_of os) ≡ none
       n₁ = not_there (first_typed (rules_of os)) x₁ typed off₁
 
-      pub one-unlike : {r : Fault} → x₂.there ≡ true → Tells 49 x₂ r → Finds common c os r
+      pub one-unlike : {r : Fault} → x₂.there ≡ true → Tells 49 x₂ r → Finds common c os (Some r)
       unfolding checked refused_at
       one-unlike e t = faulty (λ z. let y = t.number in omega (arith, z, y)) (λ other. rw (number, n₁) (found-there (unlike_in c.listed (rules_of os) 1 os) unlike e t _))
 
@@ -66,7 +66,7 @@ module _ (common : List ℕ) (c : Common) (os : List Object) where
         n₂ : unlike_in c.listed (rules_of os) 1 os ≡ none
         n₂ = not_there (unlike_in c.listed (rules_of os) 1 os) x₂ unlike off₂
 
-        pub one-twice : {r : Fault} → x₃.there ≡ true → Tells 50 x₃ r → Finds common c os r
+        pub one-twice : {r : Fault} → x₃.there ≡ true → Tells 50 x₃ r → Finds common c os (Some r)
         unfolding checked refused_at
         one-twice e t = faulty (λ z. let y = t.number in omega (arith, z, y)) (λ other. rw (number, n₁, n₂) (found-there (twice_in [] 1 os) twice e t _))
 
@@ -77,17 +77,9 @@ module _ (common : List ℕ) (c : Common) (os : List Object) where
           past' : checks.Finds (past_limit_in (min 128 c.left) 1 os) x₄
           past' = rw room at past
 
-          pub one-past : {r : Fault} → x₄.there ≡ true → Tells 9 x₄ r → Finds common c os r
+          pub one-past : {r : Fault} → x₄.there ≡ true → Tells 9 x₄ r → Finds common c os (Some r)
           unfolding checked refused_at
           one-past e t = faulty (λ z. let y = t.number in omega (arith, z, y)) (λ other. rw (number, n₁, n₂, n₃) (found-there (past_limit_in (min 128 c.left) 1 os) past' e t _))
 
-          pub none-past : {r : Fault} → x₄.there ≡ false → r.number ≡ 0 → Finds common c os r
-          none-past e z = passed z (record { number = number; untyped = n₁; alike = n₂; once = n₃; few = not_there (past_limit_in (min 128 c.left) 1 os) x₄ past' e })
-
--- The number of parts
-
-pub none-off : (count : ℕ) → count ≡ 0 → true ≡ (eqb count 0 || ltb 16 count)
-none-off count e = rw e refl
-
-pub some-off : (count : ℕ) → (count ≡ 0 → ⊥) → ltb 16 count ≡ (eqb count 0 || ltb 16 count)
-some-off count f = let z : eqb count 0 ≡ false = ne_eqb count 0 f in rw z refl
+          pub none-past : x₄.there ≡ false → Finds common c os None
+          none-past e = passed (record { number = number; untyped = n₁; alike = n₂; once = n₃; few = not_there (past_limit_in (min 128 c.left) 1 os) x₄ past' e })

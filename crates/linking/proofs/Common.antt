@@ -29,6 +29,11 @@ use Rattle.reader.specs.Answers.{Holds, held}
 use Rattle.reader.specs.Counting.{Decides, fine, wrong as unreadable}
 use Rattle.reader.specs.Texts as reads
 use Rattle.reader.specs.Texts.{Listed, unless_long}
+use Rattle.std.proofs.Common.{Ok, Err}
+use Rattle.base.specs.Faults.{fault_number}
+use Rattle.base.specs.declared.Refusal.{Refusal}
+use Rattle.reader.proofs.Laws.{not_none}
+use Rattle.reader.specs.Answers.{failing}
 use Rattle.reader.specs.declared.Counted.{Counted}
 use Rattle.symbols.specs.Rows as symbols
 use Rattle.syntax.specs.Parse.{end_of}
@@ -44,45 +49,49 @@ unfolding part_of
 shown-at w a b g l = rw (← a, ← b, ← g) l
 
 abbrev Reading : List ℕ → Counted → Read Common → Type 0
-Reading common r m = reads.Settles (Listed common r.out.at r.room) r.out m
+Reading common r m = reads.SettlesCommon common (Ok r) m
 
 module _ (common : List ℕ) (r : Counted) where
-  got_read : (m : Read Common) → read_common common ≡ m → too_long common ≡ false → Reading common r m → r.out.fault ≡ 0 → IsRead common r.room
-  got_read (got c ws) e l s z = go s.holds
+  got_read : (m : Read Common) → read_common common ≡ m → too_long common ≡ false → Reading common r m → IsRead common r.room
+  got_read (got c ws) e l s = go s.holds
     where
-      go : Holds (Listed common r.out.at r.room) (got c ws) → IsRead common r.room
-      go (held x) = record { short = l; tree = c; rest = ws; reads = e; at = r.out.at; listed = x }
-  got_read (fault n w) e l s z = go s.decides
+      go : Holds (Listed common r.at r.room) (got c ws) → IsRead common r.room
+      go (held x) = record { short = l; tree = c; rest = ws; reads = e; at = r.at; listed = x }
+  got_read (fault n w) e l s = go s.decides
     where
-      go : Decides {A = Common} r.out (fault n w) → IsRead common r.room
-      go (unreadable k f a b) = absurd (k (sym f ∙ z))
+      go : Decides {A = Common} (record { fault = 0; at = r.at; len = 0 }) (fault n w) → IsRead common r.room
+      go (unreadable k f a b) = absurd (k (sym f))
 
-  pub is_read : Reading common r (unless_long common (read_common common)) → r.out.fault ≡ 0 → IsRead common r.room
+  pub is_read : Reading common r (unless_long common (read_common common)) → IsRead common r.room
   unfolding unless_long
-  is_read s z = go (too_long common) refl s
+  is_read s = go (too_long common) refl s
     where
       go : (t : Bool) → too_long common ≡ t → Reading common r (if t then fault 9 (end_of common) else read_common common) → IsRead common r.room
       go true e s₁ = at_end s₁.decides
         where
-          at_end : Decides {A = Common} r.out (fault 9 (end_of common)) → IsRead common r.room
-          at_end (unreadable k f a b) = absurd (k (sym f ∙ z))
-      go false e s₁ = got_read (read_common common) refl e s₁ z
+          at_end : Decides {A = Common} (record { fault = 0; at = r.at; len = 0 }) (fault 9 (end_of common)) → IsRead common r.room
+          at_end (unreadable k f a b) = absurd (k (sym f))
+      go false e s₁ = got_read (read_common common) refl e s₁
 
-  module _ {objects old new : List ℕ} {q : Linked} (left : Leaves (refused r.out.fault 0 (record { start = r.out.at; size = r.out.len })) old new q) where
-    at_word : (m : Read Common) → read_common common ≡ m → too_long common ≡ false → Decides r.out m → (r.out.fault ≡ 0 → ⊥) → Links common objects old new q
-    at_word (got c ws) e l (fine z) f = absurd (f z)
-    at_word (fault n w) e l (unreadable k d a b) f = record { answer = refused n 0 (part_of w); answers = unread k l e; leaves = shown-at w d a b left }
+module _ (common : List ℕ) (x : Refusal) where
+  abbrev Refusing : Read Common → Type 0
+  Refusing m = reads.SettlesCommon common (Err x) m
 
-    pub not-read : Reading common r (unless_long common (read_common common)) → (r.out.fault ≡ 0 → ⊥) → Links common objects old new q
+  module _ {objects old new : List ℕ} {q : Linked} (left : Leaves (refused (fault_number x.fault) 0 (record { start = x.at; size = x.len })) old new q) where
+    at_word : (m : Read Common) → read_common common ≡ m → too_long common ≡ false → Decides (failing x) m → Links common objects old new q
+    at_word (got c ws) e l (fine z) = absurd (not_none x.fault z)
+    at_word (fault n w) e l (unreadable k d a b) = record { answer = refused n 0 (part_of w); answers = unread k l e; leaves = shown-at w d a b left }
+
+    pub not-read : Refusing (unless_long common (read_common common)) → Links common objects old new q
     unfolding unless_long
-    not-read s f = go (too_long common) refl s
+    not-read s = go (too_long common) refl s
       where
-        go : (t : Bool) → too_long common ≡ t → Reading common r (if t then fault 9 (end_of common) else read_common common) → Links common objects old new q
+        go : (t : Bool) → too_long common ≡ t → Refusing (if t then fault 9 (end_of common) else read_common common) → Links common objects old new q
         go true e s₁ = at_end s₁.decides
           where
-            at_end : Decides {A = Common} r.out (fault 9 (end_of common)) → Links common objects old new q
+            at_end : Decides {A = Common} (failing x) (fault 9 (end_of common)) → Links common objects old new q
             at_end (unreadable k d a b) = record { answer = refused 9 0 (part_of (end_of common)); answers = over_long e; leaves = shown-at (end_of common) d a b left }
-        go false e s₁ = at_word (read_common common) refl e s₁.decides f
+        go false e s₁ = at_word (read_common common) refl e s₁.decides
 
 -- The names
 

@@ -1,5 +1,5 @@
 -- What the steps of linking promise each other.
-use Rattle.std.specs.Prelude.{false, ◌||◌, List, [], ◌≡◌, ℕ, ◌+◌, ◌*◌, ◌≤◌, min, eqb, ltb, length, replicate, if◌then◌else◌}
+use Rattle.std.specs.Prelude.{Option as Maybe, Some, None, false, ◌||◌, List, [], ◌≡◌, ℕ, ◌+◌, ◌*◌, ◌≤◌, min, eqb, ltb, length, replicate, if◌then◌else◌}
 use Rattle.std.proofs.Math.Option.{none}
 use Rattle.cells.specs.Cells.{rules_cells}
 use Rattle.declarations.specs.Decls.{decls_of}
@@ -87,9 +87,9 @@ pub record Passed (common : List ℕ) (c : Common) (os : List Object) : Type 0 w
   pub few : past_limit_in (min 128 c.left) 1 os ≡ none
 
 -- the first fault, or none
-pub data Finds (common : List ℕ) (c : Common) (os : List Object) (r : Fault) : Type 0 where
-  faulty : (r.number ≡ 0 → ⊥) → ((other : Linked) → checked common c os other ≡ refused r.number r.text (record { start = r.start; size = r.len })) → Finds common c os r
-  passed : r.number ≡ 0 → Passed common c os → Finds common c os r
+pub data Finds (common : List ℕ) (c : Common) (os : List Object) : Maybe Fault → Type 0 where
+  faulty : {r : Fault} → (r.number ≡ 0 → ⊥) → ((other : Linked) → checked common c os other ≡ refused r.number r.text (record { start = r.start; size = r.len })) → Finds common c os (Some r)
+  passed : Passed common c os → Finds common c os None
 
 -- the answer behind these checks
 unfoldable pub behind_checks : Common → Names → List ℕ → List Object → ℕ → Linked

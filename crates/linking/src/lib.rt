@@ -11,7 +11,6 @@ ghost use Rattle.parts.specs.Form.{AreObjects};
 ghost use Rattle.parts.specs.Link.{refused};
 ghost use Rattle.syntax.specs.Texts.{Common};
 
-use base::least;
 use linkchecks::Found;
 use linkpairs::{Scope, Work};
 use translator::Answer;
@@ -31,7 +30,7 @@ const HEADS: usize = partnames::HEAD * base::RULES;
 const PLACES: usize = 2 * base::RULES;
 
 // As the processor's answer; `text` is the text at fault, 0 the common part, 1 the first part.
-#[derive(Clone, Copy)]
+#[derive(Clone, Copy, Debug, PartialEq, Eq)]
 pub struct Linked {
     pub number: u16,
     pub text: usize,
@@ -44,15 +43,15 @@ pub struct Linked {
 }
 
 // What a common part declares: how many rows, how many of them are its sections', and how many names these leave for rules.
-#[derive(Clone, Copy)]
+#[derive(Clone, Copy, Debug, PartialEq, Eq)]
 pub struct Shared {
     pub n: usize,
     pub others: usize,
     pub room: usize,
 }
 
-// A number and the part of a text that shows it; number 0 is no fault.
-#[derive(Clone, Copy)]
+// A number and the part of a text that shows it.
+#[derive(Clone, Copy, Debug, PartialEq, Eq)]
 pub struct Fault {
     pub number: u16,
     pub text: usize,
@@ -99,48 +98,40 @@ fn fault_of(number: u16, found: Found) -> Fault
 fn is_off(count: usize) -> bool
     ensures { result ≡ (eqb count 0 || ltb 16 count) }
 {
-    if count == 0 {
-        return true;
-    }
-    PARTS < count
+    count == 0 || PARTS < count
 }
 
-// The first fault of the parts together: their number, 5, 49, 50, the number of their rules.
-fn check_parts(objects: &[u8], common: &[u8], heads: &[u16], room: usize) -> Fault
+// The first fault of the parts together, if there is one: their number, 5, 49, 50, the number of their rules.
+fn first_fault(objects: &[u8], common: &[u8], heads: &[u16], room: usize) -> Option<Fault>
     ensures { (c : Common) (n : Names) (h : AreObjects common.now c n (words_of objects.now)) → HeadsAt common.now heads.now c.listed → room ≡ c.left
         → Finds common.now c h.objects result }
 {
     let count = linkchecks::count_objects(objects, common);
     if is_off(count) {
-        return Fault {
+        return Some(Fault {
             number: base::OVER_LIMIT,
             text: 0,
             start: common.len(),
             len: 0,
-        };
+        });
     }
     let typed = linkchecks::first_typed(objects, common);
     if typed.there {
-        return fault_of(base::NOT_WANTED, typed);
+        return Some(fault_of(base::NOT_WANTED, typed));
     }
     let unlike = linkchecks::find_unlike(objects, common, heads);
     if unlike.there {
-        return fault_of(UNLIKE, unlike);
+        return Some(fault_of(UNLIKE, unlike));
     }
     let twice = linkchecks::find_twice(objects, common);
     if twice.there {
-        return fault_of(TWICE, twice);
+        return Some(fault_of(TWICE, twice));
     }
-    let past = linkchecks::past_limit(objects, common, least(base::RULES, room));
+    let past = linkchecks::past_limit(objects, common, room.min(base::RULES));
     if past.there {
-        return fault_of(base::OVER_LIMIT, past);
+        return Some(fault_of(base::OVER_LIMIT, past));
     }
-    Fault {
-        number: 0,
-        text: 0,
-        start: 0,
-        len: 0,
-    }
+    None
 }
 
 // The answer for the rules of the objects, whose cells stand in the buffer, and those made for the pairs with these places.
@@ -254,11 +245,10 @@ fn link_objects(
             },
         );
     }
-    let f = check_parts(objects, common, heads, shared.room);
-    if f.number != 0 {
-        return refuse(table, f);
+    match first_fault(objects, common, heads, shared.room) {
+        Some(fault) => refuse(table, fault),
+        None => link_rules(objects, common, rows, table, shared),
     }
-    link_rules(objects, common, rows, table, shared)
 }
 
 // The same, before the numbers of its list are written to the heads.
@@ -319,17 +309,16 @@ fn link_common(common: &[u8], objects: &[u8], table: &mut [u8], room: usize) -> 
 pub fn link(common: &[u8], objects: &[u8], table: &mut [u8]) -> Linked
     ensures { Links common.now objects.now table.old table.new result }
 {
-    let r = reader::check_common(common);
-    if r.out.fault != 0 {
-        return refuse(
-            table,
-            Fault {
-                number: r.out.fault,
+    match reader::check_common(common) {
+        Ok(c) => link_common(common, objects, table, c.room),
+        Err(e) => {
+            let fault = Fault {
+                number: u16::from(e.fault),
                 text: 0,
-                start: r.out.at,
-                len: r.out.len,
-            },
-        );
+                start: e.at,
+                len: e.len,
+            };
+            refuse(table, fault)
+        }
     }
-    link_common(common, objects, table, r.room)
 }

@@ -12,7 +12,8 @@ use Rattle.acceptance.proofs.Shape.{Each}
 use Rattle.base.proofs.Laws.{neither, above_zero}
 use Rattle.linkpairs.proofs.Gathering.{behind, gather-next}
 use Rattle.linkpairs.proofs.Looking.{index-used, index-not}
-use Rattle.linkpairs.proofs.Standing.{first-pair, later-pairs}
+use Rattle.std.specs.Prelude as code
+use Rattle.linkpairs.proofs.Standing.{first-pair, no-pair-off, later-pairs}
 use Rattle.linkpairs.specs.Gather.{Gathered, gathered, past, gather, index_of}
 use Rattle.linkpairs.specs.Standing.{PairAt, Sections, KnownUse, Counts, LevelsOf, Stand, Numbered, Held, Gives, moved_to, PairTaken, PairsTaken}
 use Rattle.linkpairs.specs.declared.Scope.{Scope}
@@ -134,7 +135,7 @@ module _ {text rows : List ℕ} {scope : Scope} {words sites lowest : List ℕ} 
 
 -- Pair after pair
 
-ends_at : {words : List ℕ} {p q r : ℕ} → q ≡ p → Ends a_pair words p r → Ends a_pair words q r
+ends_at : {words : List ℕ} {p q : ℕ} {r : code.Option ℕ} → q ≡ p → Ends a_pair words p r → Ends a_pair words q r
 ends_at e x = rw e x
 
 gathered_next : (names : Names) (others own : ℕ) (seen : List Use) (u : Use) (us : List Use) (g : Gathered) → gather names others own seen (u ∷ []) ≡ g → gather names others own seen (u ∷ us) ≡ behind names others g us
@@ -169,14 +170,14 @@ module _ {text rows : List ℕ} {scope : Scope} {words sites lowest : List ℕ} 
         go p names sec own seen h f [] k e n ks = absurd (omega (arith, n, some))
         go p names sec own seen h f (u ∷ us) k e n ks = at-fault names own seen u us (gather names scope.others s.own seen (u ∷ [])) refl (x.gives p names sec own seen h f u (first-pair words s.at u us k e) ks.0)
 
-    pub pairs-off : {next : ℕ} → Ends a_pair words t.at next → length words < next → PairsTaken text rows scope words sites lowest s sites₁ lowest₁ t
-    pairs-off {next} y l = record { kept = x.kept; gives = λ p names sec own seen h f us k e n ks. absurd (go us k e n) }
+    pub pairs-off : Ends a_pair words t.at code.None → PairsTaken text rows scope words sites lowest s sites₁ lowest₁ t
+    pairs-off y = record { kept = x.kept; gives = λ p names sec own seen h f us k e n ks. absurd (go us k e n) }
       where
         go : (us : List Use) (k : List ℕ) → drop s.at words ≡ all pair_words (pairs_of us) ++ k → length us ≡ s.left → ⊥
         go [] k e n = omega (arith, n, some)
-        go (u ∷ us) k e n = let i = (later-pairs words s.at u us k e (ends_at (sym x.at) y)).1 in omega (arith, i, l)
+        go (u ∷ us) k e n = no-pair-off words s.at u us k e (ends_at (sym x.at) y)
 
-    pub pairs-step : {next left : ℕ} {sites' lowest' : List ℕ} {r : Spot} → t.fault ≡ 0 → Ends a_pair words t.at next → left ≡ t.left - 1
+    pub pairs-step : {next left : ℕ} {sites' lowest' : List ℕ} {r : Spot} → t.fault ≡ 0 → Ends a_pair words t.at (code.Some next) → left ≡ t.left - 1
         → PairsTaken text rows scope words sites₁ lowest₁ (moved_to t next left) sites' lowest' r → PairsTaken text rows scope words sites lowest s sites' lowest' r
     unfolding Gives behind Each
     pairs-step {next} {left} {sites'} {lowest'} {r} z y l more = record {

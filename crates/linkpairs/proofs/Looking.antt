@@ -5,6 +5,8 @@ use mathlib.Core.Path.{◌≡◌, refl, sym, ap, ◌∙◌}
 use native.Mathlib.Omega.{arith}
 use Prim.Native.Nat.{ℕ, suc, ◌+◌, ◌<◌, ◌≤◌}
 use lib.ListN.{length, get_or}
+use Rattle.std.specs.Option.{IfSome, is_some, unwrap_or}
+use Rattle.std.specs.Prelude.{Option, None, Some}
 use Rattle.std.specs.Prelude.{if◌then◌else◌}
 use Rattle.base.specs.Common.{same}
 use Rattle.linkpairs.specs.Gather.{index_of}
@@ -61,6 +63,16 @@ module _ (words sites : List ℕ) (us : List Use) (u : Use) (count i : ℕ) (x :
       go : (left : List Use) → count ≡ i + length left → index_of u us ≡ i + index_of u left → i ≡ index_of u us
       go [] e f = omega (arith, f)
       go (v ∷ left) e f = absurd (omega (arith, e, l))
+
+-- What looking found, with the number of all pairs for none
+
+pub some-below : (o : Option ℕ) (k : ℕ) → IfSome o (λ i. i < k) → is_some o ≡ true → unwrap_or o k < k
+some-below None k l e = absurd (let z : ◌≡◌ {A = ℕ} 0 1 = cc in omega (arith, z))
+some-below (Some i) k l e = l
+
+pub none-above : (o : Option ℕ) (k : ℕ) → is_some o ≡ false → k ≤ unwrap_or o k
+none-above None k e = omega arith
+none-above (Some i) k e = absurd (let z : ◌≡◌ {A = ℕ} 0 1 = cc in omega (arith, z))
 
 -- Whether a pair stands there
 

@@ -9,10 +9,12 @@ use lib.Seq.{get_or-drop, drop-drop, drop_at}
 use Rattle.linkpairs.specs.Standing.{PairAt}
 use Rattle.names.specs.Uses.{Use}
 use Rattle.objects.proofs.EndsLong.{packed-length}
-use Rattle.objects.proofs.Looked.{name-at, ends-took}
+use Rattle.std.specs.Prelude.{Option, Some, None, IsSomeAnd}
+use Rattle.objects.proofs.Looked.{name-at, ends-took, not-none}
 use Rattle.objects.proofs.Views.{name-exact, pair-exact, pairs-length, object-words}
 use Rattle.objects.specs.Places.{Ends, NameAt}
 use Rattle.objects.specs.View as view
+use Rattle.objects.specs.Take.{took}
 use Rattle.objects.specs.View.{name_of, pair_of, pairs_of, view_of, name_words, all, pair_words, rule_words, body_words, view_words, a_name, a_pair}
 use Rattle.parts.specs.Form.{packed, object_words, first_pair}
 use Rattle.parts.specs.Objects.{Object}
@@ -39,11 +41,12 @@ module _ (words : List ℕ) (p : ℕ) (u : Use) (x : PairAt words p u) where
   pub section-name : {r : ℕ} → r ≡ p + 2 → NameAt words r (name_of u.section)
   section-name {r} e = name-at words r (name_of u.section) (name_words (name_of u.operand) ++ x.rest) (ap (λ (i : ℕ). drop i words) e ∙ behind)
 
-  pub operand-name : {s r : ℕ} → s ≡ p + 2 → Ends a_name words s r → (r ≤ length words) × NameAt words r (name_of u.operand)
-  operand-name {s} {r} e y =
-      let k = name_words (name_of u.operand) ++ x.rest in
-      let z = ends-took (name_of u.section) k (ap a_name (ap (λ (i : ℕ). drop i words) e ∙ behind) ∙ name-exact.back (name_of u.section) tt k) y in
-      (z.1, name-at words r (name_of u.operand) x.rest (sym z.0))
+  operand-there : {s : ℕ} → s ≡ p + 2 → a_name (drop s words) ≡ took (name_of u.section) (name_words (name_of u.operand) ++ x.rest)
+  operand-there e = ap a_name (ap (λ (i : ℕ). drop i words) e ∙ behind) ∙ name-exact.back (name_of u.section) tt (name_words (name_of u.operand) ++ x.rest)
+
+  pub operand-name : {s : ℕ} → s ≡ p + 2 → (o : Option ℕ) → Ends a_name words s o → IsSomeAnd o (λ r. NameAt words r (name_of u.operand))
+  operand-name e None y = not-none (name_of u.section) _ (operand-there e) y
+  operand-name e (Some r) y = let z = ends-took (name_of u.section) (name_words (name_of u.operand) ++ x.rest) (operand-there e) y in name-at words r (name_of u.operand) x.rest (sym z.0)
 
 -- the first of pairs, and those behind it
 module _ (words : List ℕ) (at : ℕ) (u : Use) (us : List Use) (k : List ℕ) (e : drop at words ≡ all pair_words (pairs_of (u ∷ us)) ++ k) where
@@ -54,8 +57,14 @@ module _ (words : List ℕ) (at : ℕ) (u : Use) (us : List Use) (k : List ℕ) 
   pub first-pair : PairAt words at u
   first-pair = record { rest = all pair_words (pairs_of us) ++ k; is = first }
 
-  pub later-pairs : {r : ℕ} → Ends a_pair words at r → (all pair_words (pairs_of us) ++ k ≡ drop r words) × (r ≤ length words)
-  later-pairs y = ends-took (pair_of u) (all pair_words (pairs_of us) ++ k) (ap a_pair first ∙ pair-exact.back (pair_of u) tt (all pair_words (pairs_of us) ++ k)) y
+  pair-there : a_pair (drop at words) ≡ took (pair_of u) (all pair_words (pairs_of us) ++ k)
+  pair-there = ap a_pair first ∙ pair-exact.back (pair_of u) tt (all pair_words (pairs_of us) ++ k)
+
+  pub no-pair-off : Ends a_pair words at None → ⊥
+  no-pair-off y = not-none (pair_of u) _ pair-there y
+
+  pub later-pairs : {r : ℕ} → Ends a_pair words at (Some r) → (all pair_words (pairs_of us) ++ k ≡ drop r words) × (r ≤ length words)
+  later-pairs y = ends-took (pair_of u) (all pair_words (pairs_of us) ++ k) pair-there y
 
 -- An object
 

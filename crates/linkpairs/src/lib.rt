@@ -1,7 +1,7 @@
 // The pairs of section and operand rule over all objects that are linked, each once, and the rules made for them.
 #![tactic(auto)]
 
-ghost use Rattle.std.specs.Prelude.{List, ◌≡◌, ℕ, ◌+◌, ◌*◌, ◌<◌, ◌≤◌, length};
+ghost use Rattle.std.specs.Prelude.{List, ◌≡◌, ℕ, ◌+◌, ◌*◌, ◌<◌, ◌≤◌, length, IfSome, unwrap_or};
 ghost use Rattle.linkpairs.specs.Gather.{index_of};
 ghost use Rattle.linkpairs.specs.Places.{SitesFound, SiteIs, RulesMade};
 ghost use Rattle.linkpairs.specs.Standing.{PairAt, SectionName, OperandName, PairsFrom, ObjectEnds, EntriesOf, LevelsOf, Stand, Held, moved_to, PairTaken, PairsTaken, PastLimit, Collected};
@@ -36,7 +36,7 @@ const SECTION: usize = 2;
 const PLACES: usize = 2;
 
 // How many declarations the rows hold, how many names there are beside the rules', how many rules the objects have.
-#[derive(Clone, Copy)]
+#[derive(Clone, Copy, Debug, PartialEq, Eq)]
 pub struct Scope {
     pub n: usize,
     pub others: usize,
@@ -45,7 +45,7 @@ pub struct Scope {
 
 // Where collecting stands: the next pair, how many pairs of its object are left, how many are collected, how many rules there are with those made for
 // them; 0, or 9 where the rules of the next pair pass a limit.
-#[derive(Clone, Copy)]
+#[derive(Clone, Copy, Debug, PartialEq, Eq)]
 pub struct Spot {
     pub at: usize,
     pub left: usize,
@@ -55,7 +55,7 @@ pub struct Spot {
 }
 
 // 0 and how many pairs there are; or 9, the text with the `^` whose rules pass a limit (1 for the first object's), where it stands there, its length.
-#[derive(Clone, Copy)]
+#[derive(Clone, Copy, Debug, PartialEq, Eq)]
 pub struct Pairs {
     pub fault: u16,
     pub text: usize,
@@ -65,7 +65,7 @@ pub struct Pairs {
 }
 
 // How many declarations the rows hold, how many pairs are collected, how many cells and rules there are before those made.
-#[derive(Clone, Copy)]
+#[derive(Clone, Copy, Debug, PartialEq, Eq)]
 pub struct Work {
     pub n: usize,
     pub count: usize,
@@ -79,52 +79,36 @@ pub struct Work {
 fn section_at(objects: &[u8], p: usize) -> usize
     ensures { SectionName (words_of objects.now) p result }
 {
-    let end = total(objects);
-    if end < p {
-        return end;
-    }
-    if end - p < SECTION {
-        return end;
-    }
-    p + SECTION
+    p.saturating_add(SECTION).min(total(objects))
 }
 
 // The same of the operand rule's name.
 fn operand_at(objects: &[u8], p: usize) -> usize
     ensures { OperandName (words_of objects.now) p result }
 {
-    let end = total(objects);
-    let r = past_name(objects, section_at(objects, p));
-    if end < r {
-        return end;
-    }
-    r
+    past_name(objects, section_at(objects, p)).unwrap_or(total(objects))
 }
 
 // Whether the pairs at two places are the same.
 fn same_pair(objects: &[u8], p: usize, q: usize) -> bool
     ensures { (u v : Use) → PairAt (words_of objects.now) p u → PairAt (words_of objects.now) q v → result ≡ same_pair u v }
 {
-    if same_names(objects, section_at(objects, p), section_at(objects, q)) {
-        return same_names(objects, operand_at(objects, p), operand_at(objects, q));
-    }
-    false
+    same_names(objects, section_at(objects, p), section_at(objects, q))
+        && same_names(objects, operand_at(objects, p), operand_at(objects, q))
 }
 
-// The number of the pair at p among those collected; where it is none of them, how many they are.
-fn look(objects: &[u8], sites: &[usize], count: usize, p: usize) -> usize
+// The number of the pair at p among those collected, if it is one of them.
+fn look(objects: &[u8], sites: &[usize], count: usize, p: usize) -> Option<usize>
     requires { count ≤ length sites.now }
-    ensures low { result ≤ count }
-    ensures is { (us : List Use) (u : Use) → count ≡ length us → Stand (words_of objects.now) sites.now 0 us → PairAt (words_of objects.now) p u → result ≡ index_of u us }
+    ensures low { IfSome result (λ i. i < count) }
+    ensures is { (us : List Use) (u : Use) → count ≡ length us → Stand (words_of objects.now) sites.now 0 us → PairAt (words_of objects.now) p u → unwrap_or result count ≡ index_of u us }
 {
-    let mut i = 0;
-    while i < count {
-        if same_pair(objects, p, sites[i]) {
-            return i;
+    for (i, site) in sites[..count].iter().enumerate() {
+        if same_pair(objects, p, *site) {
+            return Some(i);
         }
-        i += 1;
     }
-    i
+    None
 }
 
 // The number of the lowest rule of the pair at p, which is collected.
@@ -132,11 +116,10 @@ pub fn lowest_at(objects: &[u8], sites: &[usize], lowest: &[u16], count: usize, 
     requires { (count ≤ length sites.now) × (count ≤ length lowest.now) }
     ensures { (names : Names) (own after : ℕ) (us : List Use) (u : Use) → Held (words_of objects.now) sites.now lowest.now names own count after us → PairAt (words_of objects.now) p u → result ≡ lowest_of names u own us }
 {
-    let i = look(objects, sites, count, p);
-    if i < count {
-        return lowest[i];
+    match look(objects, sites, count, p) {
+        Some(i) => lowest[i],
+        None => 0,
     }
-    0
 }
 
 // Objects in the words
@@ -149,10 +132,7 @@ fn first_pair(objects: &[u8], at: usize) -> usize
     let end = total(objects);
     let size = number(objects, at + BODY);
     let before = COMMON + size / 2 + size % 2;
-    if end - at < before {
-        return end;
-    }
-    at + before
+    (at + before).min(end)
 }
 
 // The place behind the object at a place.
@@ -162,10 +142,7 @@ pub fn next_object(objects: &[u8], at: usize) -> usize
 {
     let end = total(objects);
     let size = BODY + 65536 * number(objects, at + SIZE_HIGH) + number(objects, at + SIZE_LOW);
-    if end - at < size {
-        return end;
-    }
-    at + size
+    (at + size).min(end)
 }
 
 // Sections
@@ -177,9 +154,10 @@ fn entries_of(objects: &[u8], p: usize, text: &[u8], rows: &[u16], n: usize) -> 
 {
     let row = find_section(objects, section_at(objects, p), text, rows, n);
     if row < NONE {
-        return maker::entries_at(text, rows, row);
+        maker::entries_at(text, rows, row)
+    } else {
+        text.len()
     }
-    text.len()
 }
 
 // Their levels.
@@ -197,11 +175,8 @@ fn with_fault(s: Spot) -> Spot
     ensures { (result.at ≡ s.at) × (result.left ≡ s.left) × (result.count ≡ s.count) × (result.own ≡ s.own) × (result.fault ≡ 9) }
 {
     Spot {
-        at: s.at,
-        left: s.left,
-        count: s.count,
-        own: s.own,
         fault: base::OVER_LIMIT,
+        ..s
     }
 }
 
@@ -212,9 +187,8 @@ fn moved_to(s: Spot, at: usize, left: usize) -> Spot
     Spot {
         at,
         left,
-        count: s.count,
-        own: s.own,
         fault: 0,
+        ..s
     }
 }
 
@@ -232,24 +206,20 @@ fn take_pair(
     ensures { PairTaken text.now rows.now scope (words_of objects.now) sites.old lowest.old s sites.new lowest.new result }
 {
     let k = s.count;
-    if look(objects, sites, k, s.at) < k {
+    if look(objects, sites, k, s.at).is_some() {
         return s;
     }
     let l = levels_of(objects, s.at, text, rows, scope.n);
-    if l.count == 0 {
-        return with_fault(s);
-    }
-    if maker::is_over(scope.others, s.own, l) {
+    if l.count == 0 || maker::is_over(scope.others, s.own, l) {
         return with_fault(s);
     }
     sites[k] = s.at;
     lowest[k] = s.own as u16;
     Spot {
-        at: s.at,
-        left: s.left,
         count: k + 1,
         own: s.own + l.count,
         fault: 0,
+        ..s
     }
 }
 
@@ -266,17 +236,16 @@ fn take_pairs(
     requires { (length text.now ≤ 65535) × (scope.n ≤ 512) × (scope.others ≤ 512) × (length sites.old ≡ 128) × (length lowest.old ≡ 128) × (s.count ≤ s.own) × (s.own ≤ 128) × (s.at ≤ length (words_of objects.now)) × (s.fault ≡ 0) }
     ensures { PairsTaken text.now rows.now scope (words_of objects.now) sites.old lowest.old s sites.new lowest.new result }
 {
-    let end = total(objects);
     let mut t = s;
+    // no range: what is read says where the next stands
     while t.left > 0 {
         t = take_pair(objects, text, rows, sites, lowest, scope, t);
         if t.fault != 0 {
             return t;
         }
-        let next = past_pair(objects, t.at);
-        if next > end {
+        let Some(next) = past_pair(objects, t.at) else {
             return t;
-        }
+        };
         t = moved_to(t, next, t.left - 1);
     }
     t
@@ -287,7 +256,7 @@ fn past_limit(objects: &[u8], s: Spot, i: usize) -> Pairs
     ensures { PastLimit (words_of objects.now) s i result }
 {
     let end = total(objects);
-    let at = base::least(s.at, end);
+    let at = s.at.min(end);
     Pairs {
         fault: base::OVER_LIMIT,
         text: i,
@@ -319,6 +288,7 @@ pub fn collect(
         own: scope.own,
         fault: 0,
     };
+    // no range: what is read says where the next stands
     while at < end {
         s = moved_to(s, first_pair(objects, at), number(objects, at + PAIR_COUNT));
         s = take_pairs(objects, text, rows, sites, lowest, scope, s);
@@ -353,14 +323,12 @@ pub fn find_sites(
     requires { (length text.now ≤ 65535) × (work.n ≤ 512) × (work.count ≤ length sites.now) × (2 * work.count ≤ length places.old) × (length heads.now < 65536) }
     ensures { SitesFound text.now rows.now work.n (words_of objects.now) heads.now sites.now work.count places.new }
 {
-    let mut j = 0;
-    while j < work.count {
+    for j in 0..work.count {
         let p = sites[j];
         let at = entries_of(objects, p, text, rows, work.n);
         let rule = linker::place_of(objects, heads, operand_at(objects, p));
         places[PLACES * j] = at as u16;
         places[PLACES * j + 1] = rule as u16;
-        j += 1;
     }
 }
 
@@ -369,7 +337,7 @@ fn site_at(text: &[u8], places: &[u16], j: usize, made: Made) -> Site
     requires { j < 65536 }
     ensures { SiteIs text.now places.now j made result }
 {
-    let at = base::least(base::number(places, PLACES * j), text.len());
+    let at = base::number(places, PLACES * j).min(text.len());
     let operand = base::number(places, PLACES * j + 1);
     Site {
         at,
@@ -392,15 +360,13 @@ pub fn make(
     requires { (length text.now ≤ 65535) × Kept text.now rows.now work.n × (work.count ≤ 128) × (work.rules < 65536) × (length cells.old ≤ 60000) × (work.cells ≤ length cells.old + 1) × (length starts.old ≡ 128) × (length sorts.old ≡ 128) }
     ensures { RulesMade text.now rows.now work.n places.now 0 work.count work.rules cells.old work.cells starts.old sorts.old cells.new starts.new sorts.new result }
 {
-    let mut j = 0;
     let mut made = Made {
         count: work.cells,
         rules: work.rules,
     };
-    while j < work.count {
+    for j in 0..work.count {
         let q = site_at(text, places, j, made);
         made = levels::make_levels(text, rows, work.n, q, cells, starts, sorts);
-        j += 1;
     }
     made
 }

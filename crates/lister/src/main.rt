@@ -46,7 +46,7 @@ fn list(kept: &[u8], feeds: usize, out: &mut [u8]) -> Printed
 }
 
 // A piece of the input: its length, 0 at the input's end, and the line feeds up to its end.
-#[derive(Clone, Copy)]
+#[derive(Clone, Copy, Debug, PartialEq, Eq)]
 struct Piece {
     len: usize,
     feeds: usize,
@@ -57,10 +57,10 @@ fn count_piece<R: Read>(input: &mut R, feeds: usize, buf: &mut [u8]) -> io::Resu
     requires { feeds ≤ most }
     ensures { IfOk result (λ r. Counted feeds buf.new r) }
 {
-    let n = input.read(buf)?;
+    let len = input.read(buf)?;
     Ok(Piece {
-        len: n,
-        feeds: feeds + listing::line_feeds(&buf[..n]),
+        len,
+        feeds: feeds + listing::line_feeds(&buf[..len]),
     })
 }
 
@@ -70,14 +70,12 @@ fn count_rest<R: Read>(input: &mut R) -> io::Result<usize>
 {
     let mut buf = [0u8; PIECE_BYTES];
     let mut feeds = 0;
-    let mut left = PIECES;
-    while 0 < left {
+    for read in 0..PIECES {
         let piece = count_piece(input, feeds, &mut buf)?;
         if piece.len == 0 {
-            return Ok(feeds);
+            break;
         }
         feeds = piece.feeds;
-        left -= 1;
     }
     Ok(feeds)
 }
@@ -87,6 +85,7 @@ fn read_full<R: Read>(input: &mut R, buf: &mut [u8]) -> io::Result<usize>
     ensures { IfOk result (λ n. n ≤ length buf.new) }
 {
     let mut n = 0;
+    // no range: a read gives as many bytes as it likes
     while n < buf.len() {
         let more = input.read(&mut buf[n..])?;
         if more == 0 {
@@ -99,7 +98,7 @@ fn read_full<R: Read>(input: &mut R, buf: &mut [u8]) -> io::Result<usize>
 
 // Shows the author the word at fault, on standard error: standard output has number and line alone.
 fn show<W: Write>(output: &mut W, word: &[u8]) -> io::Result<()> {
-    if word.len() == 0 {
+    if word.is_empty() {
         return output.write_all(b"at: the end of the text\n");
     }
     output.write_all(b"at: ")?;
@@ -111,10 +110,11 @@ fn main(rt: HostRuntime) -> io::Result<()> {
     let mut input = rt.stdin();
     let mut text = [0u8; KEPT];
     let n = read_full(&mut input, &mut text)?;
-    let mut feeds = 0;
-    if n == KEPT {
-        feeds = count_rest(&mut input)?;
-    }
+    let feeds = if n == KEPT {
+        count_rest(&mut input)?
+    } else {
+        0
+    };
     let mut out = [0u8; listing::LONGEST];
     let printed = list(&text[..n], feeds, &mut out);
     let len = printed.len;

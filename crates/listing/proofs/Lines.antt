@@ -1,16 +1,17 @@
 -- Lines: of a text, and of a table's words.
-use mathlib.Core.Bool.{Bool, true, false}
+use mathlib.Core.Bool.{Bool, true, false, cond}
 use mathlib.Core.List.{List, [], ◌∷◌, ◌++◌}
 use mathlib.Core.Path.{◌≡◌, refl, sym, ap, ◌∙◌}
 use Prim.Native.Nat.{ℕ, suc, ◌+◌, ◌*◌, ◌/◌, ◌<◌, ◌≤◌, min}
 use native.Mathlib.Nat.{min-eq_left, min-eq_right}
 use native.Mathlib.Omega.{arith}
 use native.Mathlib.Numerals.{add-one}
-use borrow.Author.Tests.{eqb-true, ltb-true, ltb-false}
+use borrow.Author.Tests.{ltb-true, ltb-false}
 use lib.Dec.{eqb, ltb}
 use lib.ListN.{length, get_or, take, drop, length-append, length-take}
-use lib.Seq.{get_or-take, length-take-le, take-suc, take_all, take-length, take-take, drop-cons, drop-length}
-use Rattle.std.specs.Prelude.{if◌then◌else◌}
+use lib.Seq.{get_or-take, length-take-le, take_all, take-length, take-take, drop-cons, drop-length}
+use Rattle.std.specs.Prelude.{if◌then◌else◌, count_by}
+use Rattle.std.proofs.lemmas.List.Recursion.{is_count_by}
 use Rattle.machine.specs.Bytes.{count, words_of, table_of}
 use Rattle.machine.proofs.Bytes.{length-words_of}
 use Rattle.listing.specs.Listing.{line_feeds, line_at, word_line, word_lines, decimal}
@@ -29,33 +30,17 @@ feeds-append (b ∷ s) t = go (eqb b 10) (feeds-append s t)
 
 -- Counting a text byte by byte
 
-pub feeds-none : (text : List ℕ) → 0 ≡ line_feeds (take 0 text)
+-- the same by std's count
+pub feeds-counted : (text : List ℕ) → line_feeds text ≡ count_by (λ (b : ℕ). eqb b 10) text
 unfolding line_feeds
-feeds-none text = refl
-
-feeds-next : (text : List ℕ) (i : ℕ) → i < length text → line_feeds (take (i + 1) text) ≡ line_feeds (take i text) + line_feeds (get_or text i 0 ∷ [])
-feeds-next text i h =
-    let e : take (i + 1) text ≡ take i text ++ (get_or text i 0 ∷ []) = rw add-one (take-suc text i 0 h) in
-    ap line_feeds e ∙ feeds-append (take i text) (get_or text i 0 ∷ [])
-
-one-feed : line_feeds (10 ∷ []) ≡ 1
-unfolding line_feeds
-one-feed = refl
-
-no-feed : (b : ℕ) → (b ≡ 10 → ⊥) → line_feeds (b ∷ []) ≡ 0
-unfolding line_feeds
-no-feed b f = go (eqb b 10) refl
+feeds-counted text = is_count_by line_feeds (λ (b : ℕ). eqb b 10) refl step text
   where
-    go : (t : Bool) → eqb b 10 ≡ t → ◌≡◌ {A = ℕ} (if t then 1 else 0) 0
-    go true q = absurd (f (eqb-true b 10 q))
-    go false q = refl
-
--- behind a line feed, and behind another byte
-pub feed-more : (text : List ℕ) (i : ℕ) → i < length text → get_or text i 0 ≡ 10 → line_feeds (take i text) + 1 ≡ line_feeds (take (i + 1) text)
-feed-more text i h e = omega (arith, feeds-next text i h, ap (λ (b : ℕ). line_feeds (b ∷ [])) e, one-feed)
-
-pub feed-same : (text : List ℕ) (i : ℕ) → i < length text → (get_or text i 0 ≡ 10 → ⊥) → line_feeds (take i text) ≡ line_feeds (take (i + 1) text)
-feed-same text i h e = omega (arith, feeds-next text i h, no-feed (get_or text i 0) e)
+    step : (b : ℕ) (rest : List ℕ) → line_feeds (b ∷ rest) ≡ cond (eqb b 10) (1 + line_feeds rest) (line_feeds rest)
+    step b rest = go (eqb b 10)
+      where
+        go : (t : Bool) → (if t then suc (line_feeds rest) else line_feeds rest) ≡ cond t (1 + line_feeds rest) (line_feeds rest)
+        go true = omega arith
+        go false = refl
 
 pub feeds-few : (s : List ℕ) → line_feeds s ≤ length s
 unfolding line_feeds

@@ -6,7 +6,7 @@ ghost use Rattle.machine.specs.Bytes.{words_of, table_of};
 ghost use Rattle.listing.specs.Listing.{decimal, line_feeds, line_at, word_line, word_lines, verdict_end, heading, figure_line, table_listing, refusal_listing};
 ghost use Rattle.listing.specs.Written.{Puts, Listed};
 
-use base::{TABLE_WORDS, least, wide};
+use base::TABLE_WORDS;
 
 // No listing is longer: 12 bytes for each word of the longest table are more than enough.
 pub const LONGEST: usize = 12 * TABLE_WORDS;
@@ -16,23 +16,14 @@ pub fn line_feeds(text: &[u8]) -> usize
     ensures value { result ≡ line_feeds text.now }
     ensures upper_bound { result ≤ length text.now }
 {
-    let mut feeds = 0;
-    let mut i = 0;
-    while i < text.len() {
-        if text[i] == b'\n' {
-            feeds += 1;
-        }
-        i += 1;
-    }
-    feeds
+    text.iter().filter(|byte| **byte == b'\n').count()
 }
 
 // The line, from 1, of the word that starts there.
 pub fn lines_before(text: &[u8], start: usize) -> usize
     ensures { result ≡ line_at text.now start }
 {
-    let end = least(start, text.len());
-    1 + line_feeds(&text[..end])
+    1 + line_feeds(&text[..start.min(text.len())])
 }
 
 // Writing: each function gives the next place. Past the buffer's end nothing is written.
@@ -51,11 +42,9 @@ fn put_bytes(out: &mut [u8], at: usize, s: &[u8]) -> usize
     requires { (at < 100000) × (length s.now ≤ 100) }
     ensures { Puts s.now out.old at out.new result }
 {
-    let mut i = 0;
     let mut next = at;
-    while i < s.len() {
-        next = put_byte(out, next, s[i]);
-        i += 1;
+    for byte in s {
+        next = put_byte(out, next, *byte);
     }
     next
 }
@@ -97,12 +86,10 @@ fn put_words(table: &[u8], words: usize, out: &mut [u8], at: usize) -> usize
     ensures puts { Puts (word_lines 1 (take words (words_of table.now))) out.old at out.new result }
     ensures upper_bound { result ≤ at + 11 * words }
 {
-    let mut i = 0;
     let mut next = at;
-    while i < words {
-        let word = wide(machine::word(table, i));
+    for i in 0..words {
+        let word = usize::from(machine::word(table, i));
         next = put_line(out, next, i + 1, word);
-        i += 1;
     }
     next
 }
@@ -113,9 +100,10 @@ fn put_verdict(out: &mut [u8], at: usize, finishing: bool) -> usize
     ensures upper_bound { result ≤ at + 4 }
 {
     if finishing {
-        return put_bytes(out, at, b"yes\n");
+        put_bytes(out, at, b"yes\n")
+    } else {
+        put_bytes(out, at, b"no\n")
     }
-    put_bytes(out, at, b"no\n")
 }
 
 // The first line of an accepted text's listing.
@@ -149,7 +137,7 @@ fn put_figure(out: &mut [u8], at: usize, figure: u64) -> usize
 pub fn list_table(table: &[u8], words: usize, finishing: bool, figure: u64, out: &mut [u8]) -> usize
     ensures { Listed (table_listing (take words (table_of table.now)) finishing figure) out.old out.new result }
 {
-    let n = least(words, least(table.len() / 2, TABLE_WORDS));
+    let n = words.min(table.len() / 2).min(TABLE_WORDS);
     let a = put_heading(out, n, finishing);
     let b = put_figure(out, a, figure);
     put_words(table, n, out, b)
@@ -160,7 +148,7 @@ pub fn list_refusal(number: u16, line: usize, out: &mut [u8]) -> usize
     ensures { Listed (refusal_listing number line) out.old out.new result }
 {
     let a = put_bytes(out, 0, b"refused ");
-    let b = put_decimal(out, a, wide(number));
+    let b = put_decimal(out, a, usize::from(number));
     let d = put_bytes(out, b, b" line ");
     let e = put_decimal(out, d, line);
     put_byte(out, e, b'\n')

@@ -1,7 +1,7 @@
 -- The records of a file, one after the other.
 use mathlib.Core.Bool.{Bool, true, false, ◌&&◌}
 use mathlib.Core.List.{List}
-use mathlib.Core.Path.{◌≡◌, refl, sym, ap, ◌∙◌}
+use mathlib.Core.Path.{◌≡◌, refl, sym, ap, subst, ◌∙◌}
 use Prim.Native.Nat.{ℕ, zero, suc, ◌+◌, ◌*◌, ◌-◌, ◌%◌, ◌<◌, ◌≤◌}
 use native.Mathlib.Omega.{arith}
 use lib.Dec.{eqb, leb}
@@ -16,6 +16,7 @@ use Rattle.machine.specs.Bytes.{count, words_of}
 use Rattle.loading.specs.File.{hd, tw, table_named, allowed, is_file}
 use Rattle.loading.specs.Reading.{formed, headed}
 use Rattle.loading.proofs.Readings.{headed-file, file-headed, heads, file-words}
+use Rattle.std.specs.Prelude.{Some, None}
 use Rattle.loader.specs.Records.{full_at, last_at, Read, size_named}
 
 -- the word at p, and the one after it
@@ -144,6 +145,9 @@ module _ {ws : List ℕ} {n p left : ℕ} (r : Read ws n p left) where
       go zero h = absurd (omega (arith, r.some_left))
       go (suc k) h = last_step k u
 
+pub read-as : {ws : List ℕ} {n p left p' left' : ℕ} → Read ws n p left → p ≡ p' → left ≡ left' → Read ws n p' left'
+read-as {ws} {n} {p} {left} {p'} r e f = subst (λ (y : ℕ). Read ws n p' y) f (subst (λ (x : ℕ). Read ws n x left) e r)
+
 -- The file
 
 pub bounds : (n v : ℕ) → allowed n v ≡ true → (1 ≤ n) × (n ≤ 4096) × (v ≤ 1)
@@ -161,40 +165,40 @@ heading : (ws : List ℕ) → get_or ws 0 0 ≡ hd → get_or ws 1 0 ≡ 2 → a
 unfolding headed
 heading ws a b c d = rw (eq-eqb (get_or ws 0 0) hd a, eq-eqb (get_or ws 1 0) 2 b, c) d
 
-not-file : (s : List ℕ) → (is_file s ≡ true → ⊥) → 0 ≡ size_named s
+not-file : (s : List ℕ) → (is_file s ≡ true → ⊥) → None ≡ size_named s
 unfolding size_named
 not-file s f = go (is_file s) refl
   where
-    go : (t : Bool) → is_file s ≡ t → 0 ≡ (if t then length (table_named s) else 0)
+    go : (t : Bool) → is_file s ≡ t → None ≡ (if t then Some (length (table_named s)) else None)
     go true e = absurd (f e)
     go false e = refl
 
 module _ (s : List ℕ) where
-  pub odd-file : (length s % 2 ≡ 0 → ⊥) → 0 ≡ size_named s
+  pub odd-file : (length s % 2 ≡ 0 → ⊥) → None ≡ size_named s
   odd-file h = not-file s (λ e. h (file-headed s e).1)
 
   -- what a file's first words are
-  pub first-file : (w : ℕ) → w ≡ get_or (words_of s) 0 0 → (w ≡ hd → ⊥) → 0 ≡ size_named s
+  pub first-file : (w : ℕ) → w ≡ get_or (words_of s) 0 0 → (w ≡ hd → ⊥) → None ≡ size_named s
   first-file w e h = not-file s (λ f. h (e ∙ (heads (words_of s) (file-headed s f).0).mark))
 
-  pub second-file : (w : ℕ) → w ≡ get_or (words_of s) 1 0 → (w ≡ 2 → ⊥) → 0 ≡ size_named s
+  pub second-file : (w : ℕ) → w ≡ get_or (words_of s) 1 0 → (w ≡ 2 → ⊥) → None ≡ size_named s
   second-file w e h = not-file s (λ f. h (e ∙ (heads (words_of s) (file-headed s f).0).two))
 
-  pub length-file : (n : ℕ) → n ≡ get_or (words_of s) 2 0 → (1 ≤ n → n ≤ 4096 → ⊥) → 0 ≡ size_named s
+  pub length-file : (n : ℕ) → n ≡ get_or (words_of s) 2 0 → (1 ≤ n → n ≤ 4096 → ⊥) → None ≡ size_named s
   length-file n e h = not-file s (λ f. let a = (heads (words_of s) (file-headed s f).0).right in let b = bounds (get_or (words_of s) 2 0) (get_or (words_of s) 3 0) a in h (omega (arith, b.0)) (omega (arith, b.1)))
 
-  pub verdict_file : (v : ℕ) → v ≡ get_or (words_of s) 3 0 → 1 < v → 0 ≡ size_named s
+  pub verdict_file : (v : ℕ) → v ≡ get_or (words_of s) 3 0 → 1 < v → None ≡ size_named s
   verdict_file v e h = not-file s (λ f. let a = (heads (words_of s) (file-headed s f).0).right in let b = bounds (get_or (words_of s) 2 0) (get_or (words_of s) 3 0) a in omega (arith, b.2))
 
-  pub records-file : (n : ℕ) (x : Bool) → n ≡ get_or (words_of s) 2 0 → x ≡ formed 16 n (drop 4 (words_of s)) → x ≡ false → 0 ≡ size_named s
+  pub records-file : (n : ℕ) (x : Bool) → n ≡ get_or (words_of s) 2 0 → x ≡ formed 16 n (drop 4 (words_of s)) → x ≡ false → None ≡ size_named s
   records-file n x e g h = not-file s (λ f. let a = (heads (words_of s) (file-headed s f).0).rest in never (sym h ∙ g ∙ ap (λ (m : ℕ). formed 16 m (drop 4 (words_of s))) e ∙ a))
 
   pub whole-file : (w₀ w₁ n v : ℕ) (x : Bool) → ((i : ℕ) → get_or s i 0 < 256) → length s % 2 ≡ 0 → w₀ ≡ get_or (words_of s) 0 0 → w₀ ≡ hd → w₁ ≡ get_or (words_of s) 1 0 → w₁ ≡ 2
-      → n ≡ get_or (words_of s) 2 0 → (n ≡ 0 → ⊥) → n ≤ 4096 → v ≡ get_or (words_of s) 3 0 → v ≤ 1 → x ≡ formed 16 n (drop 4 (words_of s)) → x ≡ true → n ≡ size_named s
+      → n ≡ get_or (words_of s) 2 0 → (n ≡ 0 → ⊥) → n ≤ 4096 → v ≡ get_or (words_of s) 3 0 → v ≤ 1 → x ≡ formed 16 n (drop 4 (words_of s)) → x ≡ true → Some n ≡ size_named s
   unfolding size_named table_named
   whole-file w₀ w₁ n v x b o e₀ m₀ e₁ m₁ e₂ a u e₃ l g t =
       let h = heading (words_of s) (sym e₀ ∙ m₀) (sym e₁ ∙ m₁) (allowed-is (get_or (words_of s) 2 0) (get_or (words_of s) 3 0) (above_zero (get_or (words_of s) 2 0) (λ q. a (e₂ ∙ q))) (omega arith) (omega arith))
       (ap (λ (m : ℕ). formed 16 m (drop 4 (words_of s))) (sym e₂) ∙ sym g ∙ t) in
       let f = headed-file s b o h in
       let k = file-words (words_of s) (heads (words_of s) h) in
-      rw f (e₂ ∙ sym k.0)
+      rw f (ap Some (e₂ ∙ sym k.0))

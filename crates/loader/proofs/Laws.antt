@@ -2,7 +2,7 @@
 use mathlib.Core.Bool.{Bool, true, false, ◌&&◌}
 use mathlib.Core.List.{List, [], ◌∷◌, ◌++◌}
 use mathlib.Core.Option.{some}
-use mathlib.Core.Path.{◌≡◌, refl, sym, ap, ◌∙◌}
+use mathlib.Core.Path.{◌≡◌, refl, sym, ap, subst, ◌∙◌}
 use Prim.Native.Nat.{ℕ, zero, suc, ◌+◌, ◌*◌, ◌-◌, ◌<◌, ◌≤◌, min}
 use native.Mathlib.Omega.{arith}
 use lib.Dec.{leb}
@@ -10,7 +10,8 @@ use lib.ListN.{length, get_or, set, take, length-set, length-take}
 use lib.Seq.{get_or-take}
 use borrow.Author.Tests.{eq-eqb, ne_eqb, le-leb, lt-leb}
 use Rattle.base.specs.Bools.{never}
-use Rattle.std.specs.Prelude.{if◌then◌else◌}
+use Rattle.std.specs.Prelude as O
+use Rattle.std.specs.Prelude.{if◌then◌else◌, Some, None, is_some, unwrap_or}
 use Rattle.machine.proofs.Bytes.{length-words_of, elem_in}
 use Rattle.machine.specs.Bytes.{count, words_of, table_of}
 use Rattle.machine.specs.Decode.{fetch}
@@ -45,6 +46,46 @@ zeros-set [] i h e = absurd (omega arith)
 zeros-set (x ∷ seen) zero h e = rw (eq-eqb x 0 e) (omega arith)
 zeros-set (x ∷ seen) (suc i) h e = let r = zeros-set seen i (omega arith) e in omega arith
 
+-- What a function left, by a flag and a place
+
+pub record Worked (size : ℕ) (w : Work) (ok : Bool) (tail : ℕ) (seen order : List ℕ) : Type 0 where
+  pub is : work ok tail seen order ≡ w
+  pub kept : Kept size tail seen order
+
+module _ {size : ℕ} {w : Work} {seen order : List ℕ} where
+  pub some-marked : {t : ℕ} → Worked size w true t seen order → Marked size w (Some t) seen order
+  some-marked {t} m =
+      let e : t ≡ w.tail = ap (λ (x : Work). x.tail) m.is in
+      record { is = ap (λ (n : ℕ). work true n seen order) (sym e) ∙ m.is; tail = e; kept = subst (λ (n : ℕ). Kept size n seen order) e m.kept }
+
+  pub none-marked : {r : O.Option ℕ} {t : ℕ} → r ≡ None → Worked size w false t seen order → Marked size w r seen order
+  none-marked {r} {t} f m =
+      let e : t ≡ w.tail = ap (λ (x : Work). x.tail) m.is in
+      let n : Marked size w None seen order =
+      record { is = ap (λ (n : ℕ). work false n seen order) (sym e) ∙ m.is; tail = refl; kept = subst (λ (n : ℕ). Kept size n seen order) e m.kept } in
+      subst (λ (x : O.Option ℕ). Marked size w x seen order) (sym f) n
+
+  pub some-worked : {r : O.Option ℕ} {t : ℕ} → r ≡ Some t → Marked size w r seen order → Worked size w true t seen order
+  some-worked {r} {t} e m =
+      let n : t ≡ w.tail = ap (λ (o : O.Option ℕ). unwrap_or o w.tail) (sym e) ∙ m.tail in
+      record {
+        is = ap (λ (b : Bool). work b t seen order) (sym (ap is_some e)) ∙ ap (λ (k : ℕ). work (is_some r) k seen order) n ∙ m.is;
+        kept = subst (λ (k : ℕ). Kept size k seen order) (sym n) m.kept;
+      }
+
+  pub none-worked : {r : O.Option ℕ} → r ≡ None → Marked size w r seen order → Worked size w false w.tail seen order
+  none-worked e m = record { is = ap (λ (b : Bool). work b w.tail seen order) (sym (ap is_some e)) ∙ m.is; kept = m.kept }
+
+  pub worked : {r : O.Option ℕ} → Marked size w r seen order → Worked size w (is_some r) w.tail seen order
+  worked m = record { is = m.is; kept = m.kept }
+
+  -- a contract from one of the same outcome
+  pub same-marked : {v : Work} {r : O.Option ℕ} → Marked size v r seen order → w ≡ v → Marked size w r seen order
+  same-marked {v} {r} m e = subst (λ (u : Work). Marked size u r seen order) (sym e) m
+
+  pub pass-on : {v : Work} {r : O.Option ℕ} → Marked size v r seen order → Worked size w (is_some r) v.tail seen order → Marked size w r seen order
+  pass-on m x = same-marked m (sym x.is ∙ m.is)
+
 -- One location
 
 module _ {size tail : ℕ} {seen order : List ℕ} (k : Kept size tail seen order) where
@@ -64,16 +105,16 @@ module _ {size tail : ℕ} {seen order : List ℕ} (k : Kept size tail seen orde
   inside zero a b = absurd (a refl)
   inside (suc m) a b = rw (le-leb 1 (suc m) (omega arith)) (le-leb (suc m) size b)
 
-  pub mark-zero : (m : ℕ) → m ≡ 0 → Marked size (mark_of size m (work true tail seen order)) false tail seen order
+  pub mark-zero : (m : ℕ) → m ≡ 0 → Worked size (mark_of size m (work true tail seen order)) false tail seen order
   unfolding mark_of
   mark-zero m e = record { is = rw e; kept = k }
 
-  pub mark-past : (m : ℕ) → size < m → Marked size (mark_of size m (work true tail seen order)) false tail seen order
+  pub mark-past : (m : ℕ) → size < m → Worked size (mark_of size m (work true tail seen order)) false tail seen order
   unfolding mark_of
   mark-past m h = record { is = rw (le-leb 1 m (omega arith), lt-leb m size h); kept = k }
 
   pub mark-old : (m : ℕ) → (m ≡ 0 → ⊥) → m ≤ size → (get_or seen (m - 1) 0 ≡ 0 → ⊥)
-      → Marked size (mark_of size m (work true tail seen order)) true tail seen order
+      → Worked size (mark_of size m (work true tail seen order)) true tail seen order
   unfolding mark_of
   mark-old m a b e = record { is = rw (inside m a b, ne_eqb (get_or seen (m - 1) 0) 0 e); kept = k }
 
@@ -82,7 +123,7 @@ module _ {size tail : ℕ} {seen order : List ℕ} (k : Kept size tail seen orde
   one_less (suc m) a b e = let z = zeros-set seen (suc m - 1) (omega (arith, k.small, k.flags)) e in omega (arith, k.counted)
 
   pub mark-new : (m : ℕ) → (m ≡ 0 → ⊥) → m ≤ size → get_or seen (m - 1) 0 ≡ 0
-      → Marked size (mark_of size m (work true tail seen order)) true (tail + 1) (set seen (m - 1) 1) (set order tail m)
+      → Worked size (mark_of size m (work true tail seen order)) true (tail + 1) (set seen (m - 1) 1) (set order tail m)
   unfolding mark_of
   mark-new m a b e = record {
     is = rw (inside m a b, eq-eqb (get_or seen (m - 1) 0) 0 e);
@@ -171,7 +212,7 @@ along-start {T} {n} {from} {size} {tail} {seen} {order} k = record {
 module _ {T : List ℕ} {n from size tail : ℕ} {seen₀ order₀ seen order : List ℕ} {at i : ℕ} (a : Along T n from size tail seen₀ order₀ seen order at i) where
   -- label i leads to m
   pub along-next : (m : ℕ) {ok : Bool} {tail' : ℕ} {seen' order' : List ℕ} → i < n → back_from T (from + 2 * i + 1) ≡ m
-      → Marked size (mark_of size m (work true at seen order)) ok tail' seen' order' → ok ≡ true → Along T n from size tail seen₀ order₀ seen' order' tail' (i + 1)
+      → Worked size (mark_of size m (work true at seen order)) ok tail' seen' order' → ok ≡ true → Along T n from size tail seen₀ order₀ seen' order' tail' (i + 1)
   along-next m {ok} {tail'} {seen'} {order'} h b k t = record {
     low = omega arith;
     kept = k.kept;
@@ -183,8 +224,8 @@ module _ {T : List ℕ} {n from size tail : ℕ} {seen₀ order₀ seen order : 
   }
 
   pub along-stop : (m : ℕ) {ok : Bool} {tail' : ℕ} {seen' order' : List ℕ} → i < n → back_from T (from + 2 * i + 1) ≡ m
-      → Marked size (mark_of size m (work true at seen order)) ok tail' seen' order' → ok ≡ false
-      → Marked size (marks_of size (labelled T n from) (work true tail seen₀ order₀)) ok tail' seen' order'
+      → Worked size (mark_of size m (work true at seen order)) ok tail' seen' order' → ok ≡ false
+      → Worked size (marks_of size (labelled T n from) (work true tail seen₀ order₀)) ok tail' seen' order'
   along-stop m {ok} {tail'} {seen'} {order'} h b k t = record {
     is =
         sym (marks-stop size m (labelled T (n - (i + 1)) (from + 2 * (i + 1))) (work true at seen order) (work ok tail' seen' order') (sym k.is) t)
@@ -193,7 +234,7 @@ module _ {T : List ℕ} {n from size tail : ℕ} {seen₀ order₀ seen order : 
     kept = k.kept;
   }
 
-  pub along-end : n ≤ i → Marked size (marks_of size (labelled T n from) (work true tail seen₀ order₀)) true at seen order
+  pub along-end : n ≤ i → Worked size (marks_of size (labelled T n from) (work true tail seen₀ order₀)) true at seen order
   unfolding marks_of
   along-end h = record {
     is = ap (λ (ms : List ℕ). marks_of size ms (work true at seen order)) (sym (labels-none T n i from h)) ∙ a.rest;

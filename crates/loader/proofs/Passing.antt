@@ -15,7 +15,9 @@ use Rattle.std.specs.Prelude.{if◌then◌else◌}
 use Rattle.loading.proofs.Members.{member-head, member-tail, member-cons}
 use Rattle.loading.specs.Reach.{gives37}
 use Rattle.loading.specs.Taking.{ways, labelled, back_from}
-use Rattle.loader.proofs.Laws.{append-on, append-stop, Along}
+use Rattle.loader.proofs.Laws.{Worked, worked, some-marked, same-marked, append-on, append-stop, Along}
+use Rattle.std.specs.Prelude as O
+use Rattle.std.specs.Prelude.{Some}
 use Rattle.loader.specs.Marking.{Work, work, mark_of, marks_of, failed, visit_of, Kept, Marked, Lies}
 use Rattle.loader.specs.Passing.{AllMarked, Passed, Through, Whole}
 
@@ -66,24 +68,24 @@ passed_on seen' p g = record {
 }
 
 -- what is left of an outcome
-left-grows : {size : ℕ} {w : Work} {ok : Bool} {tail : ℕ} {seen order : List ℕ} (seen₀ : List ℕ) → Marked size w ok tail seen order → Grows seen₀ w.seen → Grows seen₀ seen
+left-grows : {size : ℕ} {w : Work} {ok : Bool} {tail : ℕ} {seen order : List ℕ} (seen₀ : List ℕ) → Worked size w ok tail seen order → Grows seen₀ w.seen → Grows seen₀ seen
 left-grows {size} {w} {ok} {tail} {seen} {order} seen₀ m g = subst (λ (v : Work). Grows seen₀ v.seen) (sym m.is) g
 
-module _ {T : List ℕ} {size : ℕ} {seen passed : List ℕ} (tail : ℕ) (order : List ℕ) (p : Passed T size seen passed) {ok : Bool} {tail' : ℕ} {seen' order' : List ℕ} where
-  pub through-mark : (m : ℕ) → Marked size (mark_of size m (work true tail seen order)) ok tail' seen' order' → Passed T size seen' passed
-  through-mark m k = passed_on seen' p (left-grows seen k (mark-grows size m (work true tail seen order)))
+module _ {T : List ℕ} {size : ℕ} {seen passed : List ℕ} (tail : ℕ) (order : List ℕ) (p : Passed T size seen passed) {r : O.Option ℕ} {seen' order' : List ℕ} where
+  pub through-mark : (m : ℕ) → Marked size (mark_of size m (work true tail seen order)) r seen' order' → Passed T size seen' passed
+  through-mark m k = passed_on seen' p (left-grows seen (worked k) (mark-grows size m (work true tail seen order)))
 
-  pub through-marks : (ms : List ℕ) → Marked size (marks_of size ms (work true tail seen order)) ok tail' seen' order'
-      → Through T size (marks_of size ms (work true tail seen order)) ok tail' seen' order' passed
-  through-marks ms k = record { marked = k; passes = passed_on seen' p (left-grows seen k (marks-grow size ms (work true tail seen order))) }
+  pub through-marks : (ms : List ℕ) → Marked size (marks_of size ms (work true tail seen order)) r seen' order'
+      → Through T size (marks_of size ms (work true tail seen order)) r seen' order' passed
+  through-marks ms k = record { marked = k; passes = passed_on seen' p (left-grows seen (worked k) (marks-grow size ms (work true tail seen order))) }
 
-  pub through-visit : (l : ℕ) → Marked size (visit_of T l (work true tail seen order)) ok tail' seen' order'
-      → Through T size (visit_of T l (work true tail seen order)) ok tail' seen' order' passed
-  through-visit l k = record { marked = k; passes = passed_on seen' p (left-grows seen k (visit-grows T l (work true tail seen order))) }
+  pub through-visit : (l : ℕ) → Marked size (visit_of T l (work true tail seen order)) r seen' order'
+      → Through T size (visit_of T l (work true tail seen order)) r seen' order' passed
+  through-visit l k = record { marked = k; passes = passed_on seen' p (left-grows seen (worked k) (visit-grows T l (work true tail seen order))) }
 
-pub same-through : {T : List ℕ} {size : ℕ} {w v : Work} {ok : Bool} {tail : ℕ} {seen order passed : List ℕ} → Through T size v ok tail seen order passed → w ≡ v
-    → Through T size w ok tail seen order passed
-same-through t e = record { marked = record { is = t.marked.is ∙ sym e; kept = t.marked.kept }; passes = t.passes }
+pub same-through : {T : List ℕ} {size : ℕ} {w v : Work} {r : O.Option ℕ} {seen order passed : List ℕ} → Through T size v r seen order passed → w ≡ v
+    → Through T size w r seen order passed
+same-through t e = record { marked = same-marked t.marked e; passes = t.passes }
 
 -- All are marked
 
@@ -161,15 +163,15 @@ module _ {T : List ℕ} {n first size tail : ℕ} {seen order passed : List ℕ}
       two : (i j x y : ℕ) → i ≡ j → x ≡ y → labelled T i x ≡ labelled T j y
       two i j x y f g = rw (f, g)
 
-  pub piece-done : (get_or passed b 0 ≡ 0 → ⊥) → Through T size (marks_of size (labelled T n first) (work true tail seen order)) true tail seen order passed
+  pub piece-done : (get_or passed b 0 ≡ 0 → ⊥) → Through T size (marks_of size (labelled T n first) (work true tail seen order)) (Some tail) seen order passed
   piece-done f =
       let a : AllMarked size seen (labelled T n first) = rw block-is at (p.ways b f) in
-      record { marked = record { is = sym (marks-same size (labelled T n first) tail seen order a); kept = k }; passes = p }
+      record { marked = some-marked (record { is = sym (marks-same size (labelled T n first) tail seen order a); kept = k }); passes = p }
 
-  pub piece-new : {ok : Bool} {tail' : ℕ} {seen' order' : List ℕ} → Marked size (marks_of size (labelled T n first) (work true tail seen order)) ok tail' seen' order' → ok ≡ true
-      → b < 256 → Through T size (marks_of size (labelled T n first) (work true tail seen order)) ok tail' seen' order' (set passed b 1)
-  piece-new {ok} {tail'} {seen'} {order'} m t u = record {
-    marked = m;
+  pub piece-new : {tail' : ℕ} {seen' order' : List ℕ} → Worked size (marks_of size (labelled T n first) (work true tail seen order)) true tail' seen' order'
+      → b < 256 → Through T size (marks_of size (labelled T n first) (work true tail seen order)) (Some tail') seen' order' (set passed b 1)
+  piece-new {tail'} {seen'} {order'} m u = record {
+    marked = some-marked m;
     passes = record {
       room = length-set passed b 1 ∙ p.room;
       ways = λ c f. split (eqb c b)
@@ -179,11 +181,11 @@ module _ {T : List ℕ} {n first size tail : ℕ} {seen order passed : List ℕ}
   }
     where
       old : Passed T size seen' passed
-      old = (through-marks tail order p (labelled T n first) m).passes
+      old = (through-marks tail order p (labelled T n first) (some-marked m)).passes
 
       all : AllMarked size seen' (labelled T n first)
       all = subst (λ (x : Work). AllMarked size x.seen (labelled T n first)) (sym m.is)
-          (marks-all size (labelled T n first) (work true tail seen order) (omega (arith, k.small, k.flags)) (ap (λ (x : Work). x.ok) (sym m.is) ∙ t))
+          (marks-all size (labelled T n first) (work true tail seen order) (omega (arith, k.small, k.flags)) (ap (λ (x : Work). x.ok) (sym m.is)))
 
 -- Piece by piece
 
@@ -207,7 +209,7 @@ labels-by T n i k from h =
     ∙ ap (λ (x : ℕ). labelled T k (from + 2 * i) ++ labelled T (n - (i + k)) x) f
 
 module _ {T : List ℕ} {n from size tail : ℕ} {seen₀ order₀ seen order : List ℕ} {at i : ℕ} (a : Along T n from size tail seen₀ order₀ seen order at i) (k : ℕ) (h : i + k ≤ n)
-    {ok : Bool} {tail' : ℕ} {seen' order' : List ℕ} (m : Marked size (marks_of size (labelled T k (from + 2 * i)) (work true at seen order)) ok tail' seen' order') where
+    {ok : Bool} {tail' : ℕ} {seen' order' : List ℕ} (m : Worked size (marks_of size (labelled T k (from + 2 * i)) (work true at seen order)) ok tail' seen' order') where
   rest-is : marks_of size (labelled T k (from + 2 * i) ++ labelled T (n - (i + k)) (from + 2 * (i + k))) (work true at seen order) ≡ marks_of size (labelled T n from) (work true tail seen₀ order₀)
   rest-is = ap (λ (ms : List ℕ). marks_of size ms (work true at seen order)) (sym (labels-by T n i k from h)) ∙ a.rest
 
@@ -221,7 +223,7 @@ module _ {T : List ℕ} {n from size tail : ℕ} {seen₀ order₀ seen order : 
         ∙ rest-is;
   }
 
-  pub along-halt : ok ≡ false → Marked size (marks_of size (labelled T n from) (work true tail seen₀ order₀)) ok tail' seen' order'
+  pub along-halt : ok ≡ false → Worked size (marks_of size (labelled T n from) (work true tail seen₀ order₀)) ok tail' seen' order'
   along-halt t = record {
     is = sym (append-stop size (labelled T k (from + 2 * i)) (labelled T (n - (i + k)) (from + 2 * (i + k))) (work true at seen order) (work ok tail' seen' order') refl (sym m.is) t) ∙ rest-is;
     kept = m.kept;

@@ -18,8 +18,8 @@ use Rattle.loading.specs.Taking.{ways, reached, taken}
 use Rattle.loading.proofs.Exact.{reached-reach, reach-reached, taken-Taken, Taken-taken, good-there}
 use Rattle.loading.proofs.Members.{member-head, member-tail, member-cons, fetch-inside}
 use Rattle.loading.proofs.Ways.{ByWays, from_start, by_way, way, by-ways}
-use Rattle.loader.proofs.Laws.{room, mark-new}
-use Rattle.loader.specs.Marking.{Work, work, mark_of, marks_of, failed, visit_of, zeros, Kept, Marked, Ready, Tells}
+use Rattle.loader.proofs.Laws.{Worked, room, mark-new}
+use Rattle.loader.specs.Marking.{Work, work, mark_of, marks_of, failed, visit_of, zeros, Kept, Ready, Tells}
 
 -- location m is marked
 pub record Flag (seen : List ℕ) (m : ℕ) : Type 0 where
@@ -357,7 +357,7 @@ tells-false : (T seen : List ℕ) → taken T ≡ false → Tells T false seen
 tells-false T seen t = record { answer = sym t; flags = λ e. never e }
 
 -- what a function has left, as the definition's
-left : (size size' : ℕ) (w v : Work) {ok : Bool} {tail : ℕ} {seen order : List ℕ} → Marked size w ok tail seen order → w ≡ v → work ok tail seen order ≡ v
+left : (size size' : ℕ) (w v : Work) {ok : Bool} {tail : ℕ} {seen order : List ℕ} → Worked size w ok tail seen order → w ≡ v → work ok tail seen order ≡ v
 left size size' w v m e = m.is ∙ e
 
 module _ (T seen₀ order₀ : List ℕ) (size : ℕ) (z : size ≡ length T) (a : length T ≤ 4096) (b : length order₀ ≡ 4096) (c : seen₀ ≡ replicate 4096 0) where
@@ -367,7 +367,7 @@ module _ (T seen₀ order₀ : List ℕ) (size : ℕ) (z : size ≡ length T) (a
   pub loop-kept : Kept size 0 seen₀ order₀
   loop-kept = rw (z, c) (kept-start T order₀ a b)
 
-  pub loop-start : {ok : Bool} {tail : ℕ} {seen order : List ℕ} → Marked size (mark_of size 1 (work true 0 seen₀ order₀)) ok tail seen order → ok ≡ true → Loop T size 0 tail seen order
+  pub loop-start : {ok : Bool} {tail : ℕ} {seen order : List ℕ} → Worked size (mark_of size 1 (work true 0 seen₀ order₀)) ok tail seen order → ok ≡ true → Loop T size 0 tail seen order
   loop-start {ok} {tail} {seen} {order} m t =
       let e : work ok tail seen order ≡ mark_of (length T) 1 (work true 0 (replicate 4096 0) order₀) = m.is ∙ begun in
       let f = first_on T order₀ a b (ap (λ (w : Work). w.ok) (sym e) ∙ t) in
@@ -379,7 +379,7 @@ module _ (T seen₀ order₀ : List ℕ) (size : ℕ) (z : size ≡ length T) (a
         start = subst (λ (w : Work). Flag w.seen 1) (sym e) f.1;
       }
 
-  pub loop-none : {ok : Bool} {tail : ℕ} {seen order : List ℕ} → Marked size (mark_of size 1 (work true 0 seen₀ order₀)) ok tail seen order → ok ≡ false → Tells T false seen
+  pub loop-none : {ok : Bool} {tail : ℕ} {seen order : List ℕ} → Worked size (mark_of size 1 (work true 0 seen₀ order₀)) ok tail seen order → ok ≡ false → Tells T false seen
   loop-none {ok} {tail} {seen} {order} m t =
       tells-false T seen (first-fails T order₀ (ap (λ (w : Work). w.ok) (sym (m.is ∙ begun)) ∙ t))
 
@@ -408,7 +408,7 @@ module _ {T : List ℕ} {size head tail : ℕ} {seen order : List ℕ} (k : Loop
           last = rw (e, z) i.1;
         }
 
-    module _ {ok : Bool} {tail' : ℕ} {seen' order' : List ℕ} (m : Marked size (visit_of T l (work true tail seen order)) ok tail' seen' order') where
+    module _ {ok : Bool} {tail' : ℕ} {seen' order' : List ℕ} (m : Worked size (visit_of T l (work true tail seen order)) ok tail' seen' order') where
       same-work : work ok tail' seen' order' ≡ visit_of T (get_or order head 0) (work true tail seen order)
       same-work = m.is ∙ ap (λ (x : ℕ). visit_of T x (work true tail seen order)) e
 

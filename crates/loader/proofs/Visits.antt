@@ -21,8 +21,8 @@ use Rattle.machine.specs.Lengths.{lengths, length_of}
 use Rattle.loading.specs.Reach.{fits, bad, gives37}
 use Rattle.loading.specs.Taking.{labelled, chosen, onward, ways}
 use Rattle.loading.proofs.Members.{fetch-inside}
-use Rattle.loader.specs.Marking.{Work, work, mark_of, marks_of, failed, visit_of, choice_of, Kept, Marked, Ready, Holds, Takes}
-use Rattle.loader.proofs.Laws.{table-fetch, marks-one, marks-on, marks-stop, append-on, append-stop}
+use Rattle.loader.specs.Marking.{Work, work, mark_of, marks_of, failed, visit_of, choice_of, Kept, Ready, Holds, Takes}
+use Rattle.loader.proofs.Laws.{Worked, table-fetch, marks-one, marks-on, marks-stop, append-on, append-stop}
 
 -- no word past the table
 pub fetch-past : (T : List ℕ) (l : ℕ) → length T < l → fetch T l ≡ none
@@ -98,7 +98,7 @@ next-two T l i x a b c d e =
 
 -- The ways out of the functions
 
-failing : {size tail : ℕ} {seen order : List ℕ} (w : Work) → Kept size tail seen order → w ≡ work false tail seen order → Marked size w false tail seen order
+failing : {size tail : ℕ} {seen order : List ℕ} (w : Work) → Kept size tail seen order → w ≡ work false tail seen order → Worked size w false tail seen order
 failing w k e = record { is = sym e; kept = k }
 
 unfoldable failed-is : (tail : ℕ) (seen order : List ℕ) → failed (work true tail seen order) ≡ work false tail seen order
@@ -106,27 +106,27 @@ unfolding failed
 failed-is tail seen order = refl
 
 -- a contract from one of the same outcome
-pub same-work : {size : ℕ} {w v : Work} {ok : Bool} {tail : ℕ} {seen order : List ℕ} → Marked size v ok tail seen order → w ≡ v → Marked size w ok tail seen order
+pub same-work : {size : ℕ} {w v : Work} {ok : Bool} {tail : ℕ} {seen order : List ℕ} → Worked size v ok tail seen order → w ≡ v → Worked size w ok tail seen order
 same-work m e = record { is = m.is ∙ sym e; kept = m.kept }
 
 module _ {T : List ℕ} {l size tail : ℕ} {seen order : List ℕ} where
   pub outside-none : (i : ℕ) → Ready T l size tail seen order → fetch T l ≡ some i → length_of i ≡ 0
-      → Marked size (visit_of T l (work true tail seen order)) false tail seen order
+      → Worked size (visit_of T l (work true tail seen order)) false tail seen order
   outside-none i r h e = failing _ r.kept (visit-invalid T l _ (decode-none T l i h e) ∙ failed-is tail seen order)
 
   pub outside-cut : (i : ℕ) → Ready T l size tail seen order → fetch T l ≡ some i → length_of i ≡ 2 → size < l + 1
-      → Marked size (visit_of T l (work true tail seen order)) false tail seen order
+      → Worked size (visit_of T l (work true tail seen order)) false tail seen order
   outside-cut i r h e b = failing _ r.kept (visit-invalid T l _ (decode-short T l i h e (omega (arith, r.size_is))) ∙ failed-is tail seen order)
 
   -- of one word
   module _ {i : ℕ} (h : Holds T l i 1 size tail seen order) where
-    pub ends_there : (i ≡ 9) ⊎ (i ≡ 12) → Marked size (visit_of T l (work true tail seen order)) true tail seen order
+    pub ends_there : (i ≡ 9) ⊎ (i ≡ 12) → Worked size (visit_of T l (work true tail seen order)) true tail seen order
     unfolding decode_one bad onward marks_of
     ends_there (inl e) = record { is = sym (visit-to T l return [] _ (decode-one T l i h.here h.long ∙ rw e) refl refl); kept = h.ready.kept }
     ends_there (inr e) = record { is = sym (visit-to T l end_choice [] _ (decode-one T l i h.here h.long ∙ rw e) refl refl); kept = h.ready.kept }
 
     pub one_on : {ok : Bool} {tail' : ℕ} {seen' order' : List ℕ} → (i ≡ 9 → ⊥) → (i ≡ 12 → ⊥)
-        → Marked size (mark_of size (l + 1) (work true tail seen order)) ok tail' seen' order' → Marked size (visit_of T l (work true tail seen order)) ok tail' seen' order'
+        → Worked size (mark_of size (l + 1) (work true tail seen order)) ok tail' seen' order' → Worked size (visit_of T l (work true tail seen order)) ok tail' seen' order'
     one_on a b m =
         let n = next_one T l i a b in
         let z = h.ready.size_is in
@@ -174,15 +174,15 @@ module _ (T : List ℕ) (c : ℕ) {size tail : ℕ} {seen order : List ℕ} (k :
   abbrev w₁ : Work
   w₁ = work true tail seen order
 
-  choice-fails : (o : Option ℕ) → fetch T c ≡ o → fits T c o ≡ false → Marked size (choice_of T c w₁) false tail seen order
+  choice-fails : (o : Option ℕ) → fetch T c ≡ o → fits T c o ≡ false → Worked size (choice_of T c w₁) false tail seen order
   unfolding choice_of
   choice-fails o e f = failing _ k (rw (e, f) (failed-is tail seen order))
 
-  pub choice-past : size < c → Marked size (choice_of T c w₁) false tail seen order
+  pub choice-past : size < c → Worked size (choice_of T c w₁) false tail seen order
   unfolding fits
   choice-past h = choice-fails none (fetch-past T c (omega arith)) refl
 
-  pub choice-cut : (n : ℕ) → fetch T c ≡ some n → size < c + 2 * n → Marked size (choice_of T c w₁) false tail seen order
+  pub choice-cut : (n : ℕ) → fetch T c ≡ some n → size < c + 2 * n → Worked size (choice_of T c w₁) false tail seen order
   unfolding fits
   choice-cut n e h = choice-fails (some n) e (lt-leb (c + 2 * n) (length T) (omega arith))
 
@@ -191,13 +191,13 @@ module _ (T : List ℕ) (c : ℕ) {size tail : ℕ} {seen order : List ℕ} (k :
     unfolding choice_of fits chosen
     choice-all = rw (e, fits, le-leb (c + 2 * n) (length T) (omega arith), ← z)
 
-    pub choice-stop : {ok : Bool} {tail' : ℕ} {seen' order' : List ℕ} → Marked size (marks_of size (labelled T n (c + 1)) w₁) ok tail' seen' order' → ok ≡ false
-        → Marked size (choice_of T c w₁) ok tail' seen' order'
+    pub choice-stop : {ok : Bool} {tail' : ℕ} {seen' order' : List ℕ} → Worked size (marks_of size (labelled T n (c + 1)) w₁) ok tail' seen' order' → ok ≡ false
+        → Worked size (choice_of T c w₁) ok tail' seen' order'
     choice-stop {ok} {tail'} {seen'} {order'} m t =
         record { is = sym (choice-all ∙ append-stop size (labelled T n (c + 1)) ((c + 1 + 2 * n) ∷ []) w₁ (work ok tail' seen' order') refl (sym m.is) t); kept = m.kept }
 
-    pub choice-on : {ok ok' : Bool} {tail' tail'' : ℕ} {seen' order' seen'' order'' : List ℕ} → Marked size (marks_of size (labelled T n (c + 1)) w₁) ok tail' seen' order' → ok ≡ true
-        → Marked size (mark_of size (c + 1 + 2 * n) (work true tail' seen' order')) ok' tail'' seen'' order'' → Marked size (choice_of T c w₁) ok' tail'' seen'' order''
+    pub choice-on : {ok ok' : Bool} {tail' tail'' : ℕ} {seen' order' seen'' order'' : List ℕ} → Worked size (marks_of size (labelled T n (c + 1)) w₁) ok tail' seen' order' → ok ≡ true
+        → Worked size (mark_of size (c + 1 + 2 * n) (work true tail' seen' order')) ok' tail'' seen'' order'' → Worked size (choice_of T c w₁) ok' tail'' seen'' order''
     choice-on {ok} {tail' = tail'} {seen' = seen'} {order' = order'} m t v =
         same-work v (choice-all ∙ append-on size (labelled T n (c + 1)) ((c + 1 + 2 * n) ∷ []) w₁ (work ok tail' seen' order') refl (sym m.is) t
         ∙ ap (λ (b : Bool). marks_of size ((c + 1 + 2 * n) ∷ []) (work b tail' seen' order')) t ∙ marks-one size (c + 1 + 2 * n) (work true tail' seen' order'))
@@ -205,14 +205,14 @@ module _ (T : List ℕ) (c : ℕ) {size tail : ℕ} {seen order : List ℕ} (k :
 -- Two locations
 
 module _ (size tail m k : ℕ) (seen order : List ℕ) where
-  pub two-stop : {ok : Bool} {tail' : ℕ} {seen' order' : List ℕ} → Marked size (mark_of size m (work true tail seen order)) ok tail' seen' order' → ok ≡ false
-      → Marked size (marks_of size (m ∷ k ∷ []) (work true tail seen order)) ok tail' seen' order'
+  pub two-stop : {ok : Bool} {tail' : ℕ} {seen' order' : List ℕ} → Worked size (mark_of size m (work true tail seen order)) ok tail' seen' order' → ok ≡ false
+      → Worked size (marks_of size (m ∷ k ∷ []) (work true tail seen order)) ok tail' seen' order'
   two-stop {ok} {tail'} {seen'} {order'} a t =
       record { is = sym (marks-stop size m (k ∷ []) (work true tail seen order) (work ok tail' seen' order') (sym a.is) t); kept = a.kept }
 
-  pub two-on : {ok ok' : Bool} {tail' tail'' : ℕ} {seen' order' seen'' order'' : List ℕ} → Marked size (mark_of size m (work true tail seen order)) ok tail' seen' order' → ok ≡ true
-      → Marked size (mark_of size k (work true tail' seen' order')) ok' tail'' seen'' order''
-      → Marked size (marks_of size (m ∷ k ∷ []) (work true tail seen order)) ok' tail'' seen'' order''
+  pub two-on : {ok ok' : Bool} {tail' tail'' : ℕ} {seen' order' seen'' order'' : List ℕ} → Worked size (mark_of size m (work true tail seen order)) ok tail' seen' order' → ok ≡ true
+      → Worked size (mark_of size k (work true tail' seen' order')) ok' tail'' seen'' order''
+      → Worked size (marks_of size (m ∷ k ∷ []) (work true tail seen order)) ok' tail'' seen'' order''
   two-on {ok} {tail' = tail'} {seen' = seen'} {order' = order'} a t v =
       same-work v (marks-on size m (k ∷ []) (work true tail seen order) (work ok tail' seen' order') (sym a.is) t
       ∙ ap (λ (b : Bool). marks_of size (k ∷ []) (work b tail' seen' order')) t ∙ marks-one size k (work true tail' seen' order'))

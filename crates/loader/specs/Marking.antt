@@ -1,6 +1,7 @@
 -- What the loader's functions compute, in the code's own order: locations are marked and put into a row, each once.
 use Rattle.std.specs.Prelude.{Bool, true, false, ◌&&◌, not, List, [], ◌∷◌, ◌≡◌, ℕ, suc, ◌+◌, ◌*◌, ◌-◌, ◌<◌, ◌≤◌, eqb, leb, length, get_or, set, if◌then◌else◌}
 use Rattle.std.proofs.Math.Option.{some}
+use Rattle.std.specs.Prelude.{Option, is_some, unwrap_or}
 use Rattle.base.specs.Common.{member}
 use Rattle.loading.specs.Reach.{gives37, fits}
 use Rattle.loading.specs.Taking.{chosen, ways, reached, taken}
@@ -49,9 +50,11 @@ pub record Kept (size tail : ℕ) (seen order : List ℕ) : Type 0 where
   pub row : length order ≡ 4096
   pub counted : tail + zeros seen ≡ 4096
 
-pub record Marked (size : ℕ) (w : Work) (ok : Bool) (tail : ℕ) (seen order : List ℕ) : Type 0 where
-  pub is : work ok tail seen order ≡ w
-  pub kept : Kept size tail seen order
+-- a function left w, and gave how many are marked, or none where a location is outside
+pub record Marked (size : ℕ) (w : Work) (r : Option ℕ) (seen order : List ℕ) : Type 0 where
+  pub is : work (is_some r) w.tail seen order ≡ w
+  pub tail : unwrap_or r w.tail ≡ w.tail
+  pub kept : Kept size w.tail seen order
 
 -- n labels from a location on lie inside the table
 pub record Lies (T : List ℕ) (n from size : ℕ) : Type 0 where

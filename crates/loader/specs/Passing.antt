@@ -1,5 +1,5 @@
 -- Choice tables are gone through in blocks of 16 entries; the ways of a block are marked once.
-use Rattle.std.specs.Prelude.{Bool, true, false, List, ◌≡◌, ℕ, ◌+◌, ◌*◌, ◌-◌, ◌/◌, ◌%◌, ◌<◌, ◌≤◌, eqb, length, get_or}
+use Rattle.std.specs.Prelude.{true, false, Option, List, ◌≡◌, ℕ, ◌+◌, ◌*◌, ◌-◌, ◌/◌, ◌%◌, ◌<◌, ◌≤◌, eqb, length, get_or}
 use Rattle.base.specs.Common.{member}
 use Rattle.loading.specs.Taking.{labelled}
 use Rattle.loader.specs.Marking.{Work, Marked}
@@ -14,8 +14,8 @@ pub record Passed (T : List ℕ) (size : ℕ) (seen passed : List ℕ) : Type 0 
   pub ways : (b : ℕ) → (get_or passed b 0 ≡ 0 → ⊥) → AllMarked size seen (labelled T 16 (b / 2 * 32 + b % 2))
 
 -- what a function leaves that goes through choice tables
-pub record Through (T : List ℕ) (size : ℕ) (w : Work) (ok : Bool) (tail : ℕ) (seen order passed : List ℕ) : Type 0 where
-  pub marked : Marked size w ok tail seen order
+pub record Through (T : List ℕ) (size : ℕ) (w : Work) (r : Option ℕ) (seen order passed : List ℕ) : Type 0 where
+  pub marked : Marked size w r seen order
   pub passes : Passed T size seen passed
 
 -- some of the entries that are left

@@ -10,9 +10,9 @@ ghost use Rattle.loading.specs.Reading.{formed};
 ghost use Rattle.loading.specs.Taking.{labelled, taken};
 ghost use Rattle.loader.specs.Marking.{work, mark_of, marks_of, choice_of, visit_of, Kept, Marked, Lies, Ready, Holds, Takes, Tells};
 ghost use Rattle.loader.specs.Passing.{Passed, Through, Piece, Whole};
-ghost use Rattle.loader.specs.Records.{full_at, last_at, size_named, Loads};
+ghost use Rattle.loader.specs.Records.{full_at, last_at, size_named, error_number, Loads};
 
-use base::{TABLE_WORDS, wide};
+use base::TABLE_WORDS;
 
 // Choice tables are gone through in blocks of 16 entries, each once, so that tables which many choices share or which overlap cost no more than their
 // entries. A block begins at a location that its words divide, or one behind it.
@@ -21,21 +21,6 @@ const BLOCK: usize = 16;
 const BLOCK_WORDS: usize = 32;
 
 const BLOCKS: usize = 256;
-
-// The instructions that do not go on with the word behind them.
-const JUMP_FORWARD: usize = machine::JUMP_FORWARD as usize;
-
-const JUMP_BACK: usize = machine::JUMP_BACK as usize;
-
-const INPUT_CHOICE: usize = machine::INPUT_CHOICE as usize;
-
-const CALL: usize = machine::CALL as usize;
-
-const RETURN: usize = machine::RETURN as usize;
-
-const CHOICE: usize = machine::CHOICE as usize;
-
-const END_CHOICE: usize = machine::END_CHOICE as usize;
 
 // The marks of a file's records, `HD` and `TW`, high byte first.
 pub const HEAD_MARK: u16 = 18500;
@@ -63,23 +48,16 @@ pub const RECORD_HEAD: usize = 2;
 
 const WORDS_AT: usize = RECORDS_AT + RECORD_HEAD;
 
-// Whether every location was inside the table, and how many are marked.
-#[derive(Clone, Copy)]
-pub struct Marks {
-    pub ok: bool,
-    pub tail: usize,
-}
-
 // An instruction of two words: its location, its number and its operand.
-#[derive(Clone, Copy)]
+#[derive(Clone, Copy, Debug, PartialEq, Eq)]
 struct Instruction {
     at: usize,
-    number: usize,
+    number: u16,
     operand: usize,
 }
 
 // Entries of a choice table: where the first label stands, and how many there are.
-#[derive(Clone, Copy)]
+#[derive(Clone, Copy, Debug, PartialEq, Eq)]
 struct Entries {
     first: usize,
     count: usize,
@@ -89,8 +67,7 @@ struct Entries {
 pub fn size_of(table: &[u8]) -> usize
     ensures { result ≡ length (table_of table.now) }
 {
-    let n = machine::count_words(table);
-    if n < TABLE_WORDS { n } else { TABLE_WORDS }
+    machine::count_words(table).min(TABLE_WORDS)
 }
 
 // The word at a location of the table.
@@ -98,45 +75,25 @@ pub fn word_at(table: &[u8], l: usize) -> usize
     requires { (1 ≤ l) × (l ≤ length (table_of table.now)) }
     ensures { (fetch (table_of table.now) l ≡ some result) × (result < 65536) }
 {
-    wide(machine::word(table, l - 1))
+    usize::from(machine::word(table, l - 1))
 }
 
-// Back from a location by a distance; 0 where there is no such location.
-pub fn back(l: usize, x: usize) -> usize
-    ensures { result ≡ l - x }
-{
-    if x < l { l - x } else { 0 }
-}
+// Where a location leads to a place outside the table, nothing more is marked and the functions below give None; else they give how many are marked.
 
 // A location is marked, if it is inside the table and is not marked yet.
-fn mark(m: usize, size: usize, tail: usize, seen: &mut [u8], order: &mut [u16]) -> Marks
+fn mark(m: usize, size: usize, tail: usize, seen: &mut [u8], order: &mut [u16]) -> Option<usize>
     requires { Kept size tail seen.old order.old }
-    ensures { Marked size (mark_of size m (work true tail seen.old order.old)) result.ok result.tail seen.new order.new }
+    ensures { Marked size (mark_of size m (work true tail seen.old order.old)) result seen.new order.new }
 {
-    if m == 0 {
-        return Marks {
-            ok: false,
-            tail: tail,
-        };
-    }
-    if size < m {
-        return Marks {
-            ok: false,
-            tail: tail,
-        };
+    if m == 0 || size < m {
+        return None;
     }
     if seen[m - 1] != 0 {
-        return Marks {
-            ok: true,
-            tail: tail,
-        };
+        return Some(tail);
     }
     seen[m - 1] = 1;
     order[tail] = m as u16;
-    Marks {
-        ok: true,
-        tail: tail + 1,
-    }
+    Some(tail + 1)
 }
 
 // Where n labels lead is marked, the first label standing at `from`.
@@ -148,23 +105,17 @@ fn mark_labels(
     tail: usize,
     seen: &mut [u8],
     order: &mut [u16],
-) -> Marks
+) -> Option<usize>
     requires { Kept size tail seen.old order.old × Lies (table_of table.now) n from size }
-    ensures { Marked size (marks_of size (labelled (table_of table.now) n from) (work true tail seen.old order.old)) result.ok result.tail seen.new order.new }
+    ensures { Marked size (marks_of size (labelled (table_of table.now) n from) (work true tail seen.old order.old)) result seen.new order.new }
 {
     let mut at = tail;
-    let mut i: usize = 0;
-    while i < n {
+    for i in 0..n {
         let l = from + 2 * i + 1;
         let x = word_at(table, l);
-        let r = mark(back(l, x), size, at, seen, order);
-        if !r.ok {
-            return r;
-        }
-        at = r.tail;
-        i += 1;
+        at = mark(l.saturating_sub(x), size, at, seen, order)?;
     }
-    Marks { ok: true, tail: at }
+    Some(at)
 }
 
 // How many of the entries that are left stand in the block of the first one.
@@ -172,18 +123,14 @@ fn piece(first: usize, left: usize) -> usize
     requires { 1 ≤ left }
     ensures { Piece left result }
 {
-    let here = (BLOCK_WORDS + 1 - first % BLOCK_WORDS) / 2;
-    if left < here { left } else { here }
+    left.min((BLOCK_WORDS + 1 - first % BLOCK_WORDS) / 2)
 }
 
 // Whether the entries are a whole block.
 fn is_block(e: Entries) -> bool
     ensures { result ≡ true → Whole e.first e.count }
 {
-    if e.count != BLOCK {
-        return false;
-    }
-    e.first % BLOCK_WORDS < 2
+    e.count == BLOCK && e.first % BLOCK_WORDS < 2
 }
 
 // Where the entries lead is marked, unless they are a block that was gone through.
@@ -195,9 +142,9 @@ fn mark_piece(
     seen: &mut [u8],
     order: &mut [u16],
     passed: &mut [u8],
-) -> Marks
+) -> Option<usize>
     requires { Kept size tail seen.old order.old × Lies (table_of table.now) e.count e.first size × Passed (table_of table.now) size seen.old passed.old }
-    ensures { Through (table_of table.now) size (marks_of size (labelled (table_of table.now) e.count e.first) (work true tail seen.old order.old)) result.ok result.tail seen.new order.new passed.new }
+    ensures { Through (table_of table.now) size (marks_of size (labelled (table_of table.now) e.count e.first) (work true tail seen.old order.old)) result seen.new order.new passed.new }
 {
     let first = e.first;
     let n = e.count;
@@ -206,16 +153,11 @@ fn mark_piece(
     }
     let block = first / BLOCK_WORDS * 2 + first % 2;
     if passed[block] != 0 {
-        return Marks {
-            ok: true,
-            tail: tail,
-        };
+        return Some(tail);
     }
-    let r = mark_labels(table, n, first, size, tail, seen, order);
-    if r.ok {
-        passed[block] = 1;
-    }
-    r
+    let at = mark_labels(table, n, first, size, tail, seen, order)?;
+    passed[block] = 1;
+    Some(at)
 }
 
 // Where the entries of a choice table lead is marked, block by block.
@@ -227,28 +169,22 @@ fn mark_entries(
     seen: &mut [u8],
     order: &mut [u16],
     passed: &mut [u8],
-) -> Marks
+) -> Option<usize>
     requires { Kept size tail seen.old order.old × Lies (table_of table.now) e.count e.first size × Passed (table_of table.now) size seen.old passed.old }
-    ensures { Through (table_of table.now) size (marks_of size (labelled (table_of table.now) e.count e.first) (work true tail seen.old order.old)) result.ok result.tail seen.new order.new passed.new }
+    ensures { Through (table_of table.now) size (marks_of size (labelled (table_of table.now) e.count e.first) (work true tail seen.old order.old)) result seen.new order.new passed.new }
 {
     let n = e.count;
     let mut at = tail;
-    let mut i: usize = 0;
+    let mut i = 0;
+    // no range: a piece has as many entries as are left of its block
     while i < n {
         let first = e.first + 2 * i;
         let k = piece(first, n - i);
-        let part = Entries {
-            first: first,
-            count: k,
-        };
-        let r = mark_piece(table, part, size, at, seen, order, passed);
-        if !r.ok {
-            return r;
-        }
-        at = r.tail;
+        let part = Entries { first, count: k };
+        at = mark_piece(table, part, size, at, seen, order, passed)?;
         i += k;
     }
-    Marks { ok: true, tail: at }
+    Some(at)
 }
 
 // Two locations are marked.
@@ -259,15 +195,12 @@ fn mark_two(
     tail: usize,
     seen: &mut [u8],
     order: &mut [u16],
-) -> Marks
+) -> Option<usize>
     requires { Kept size tail seen.old order.old }
-    ensures { Marked size (marks_of size (m ∷ k ∷ []) (work true tail seen.old order.old)) result.ok result.tail seen.new order.new }
+    ensures { Marked size (marks_of size (m ∷ k ∷ []) (work true tail seen.old order.old)) result seen.new order.new }
 {
-    let r = mark(m, size, tail, seen, order);
-    if !r.ok {
-        return r;
-    }
-    mark(k, size, r.tail, seen, order)
+    let at = mark(m, size, tail, seen, order)?;
+    mark(k, size, at, seen, order)
 }
 
 // The labels and the default of the choice table at c.
@@ -279,58 +212,40 @@ fn mark_choice(
     seen: &mut [u8],
     order: &mut [u16],
     passed: &mut [u8],
-) -> Marks
+) -> Option<usize>
     requires { Kept size tail seen.old order.old × (size ≡ length (table_of table.now)) × (1 ≤ c) × (c < 1000000) × Passed (table_of table.now) size seen.old passed.old }
-    ensures { Through (table_of table.now) size (choice_of (table_of table.now) c (work true tail seen.old order.old)) result.ok result.tail seen.new order.new passed.new }
+    ensures { Through (table_of table.now) size (choice_of (table_of table.now) c (work true tail seen.old order.old)) result seen.new order.new passed.new }
 {
     if size < c {
-        return Marks {
-            ok: false,
-            tail: tail,
-        };
+        return None;
     }
     let n = word_at(table, c);
     if size < c + 2 * n {
-        return Marks {
-            ok: false,
-            tail: tail,
-        };
+        return None;
     }
     let all = Entries {
         first: c + 1,
         count: n,
     };
-    let r = mark_entries(table, all, size, tail, seen, order, passed);
-    if !r.ok {
-        return r;
-    }
-    mark(c + 1 + 2 * n, size, r.tail, seen, order)
+    let at = mark_entries(table, all, size, tail, seen, order, passed)?;
+    mark(c + 1 + 2 * n, size, at, seen, order)
 }
 
 // An instruction of one word.
 fn visit_one(
     table: &[u8],
     l: usize,
-    i: usize,
+    i: u16,
     size: usize,
     tail: usize,
     seen: &mut [u8],
     order: &mut [u16],
-) -> Marks
+) -> Option<usize>
     requires { Holds (table_of table.now) l i 1 size tail seen.old order.old }
-    ensures { Marked size (visit_of (table_of table.now) l (work true tail seen.old order.old)) result.ok result.tail seen.new order.new }
+    ensures { Marked size (visit_of (table_of table.now) l (work true tail seen.old order.old)) result seen.new order.new }
 {
-    if i == RETURN {
-        return Marks {
-            ok: true,
-            tail: tail,
-        };
-    }
-    if i == END_CHOICE {
-        return Marks {
-            ok: true,
-            tail: tail,
-        };
+    if i == machine::RETURN || i == machine::END_CHOICE {
+        return Some(tail);
     }
     mark(l + 1, size, tail, seen, order)
 }
@@ -344,26 +259,25 @@ fn visit_two(
     seen: &mut [u8],
     order: &mut [u16],
     passed: &mut [u8],
-) -> Marks
+) -> Option<usize>
     requires { Takes (table_of table.now) i.at i.number i.operand size tail seen.old order.old × Passed (table_of table.now) size seen.old passed.old }
-    ensures { Through (table_of table.now) size (visit_of (table_of table.now) i.at (work true tail seen.old order.old)) result.ok result.tail seen.new order.new passed.new }
+    ensures { Through (table_of table.now) size (visit_of (table_of table.now) i.at (work true tail seen.old order.old)) result seen.new order.new passed.new }
 {
-    if i.number == JUMP_FORWARD {
-        return mark(i.at + 1 + i.operand, size, tail, seen, order);
+    match i.number {
+        machine::JUMP_FORWARD => mark(i.at + 1 + i.operand, size, tail, seen, order),
+        machine::JUMP_BACK => mark(
+            (i.at + 1).saturating_sub(i.operand),
+            size,
+            tail,
+            seen,
+            order,
+        ),
+        machine::INPUT_CHOICE | machine::CHOICE => {
+            mark_choice(table, i.at + 1 + i.operand, size, tail, seen, order, passed)
+        }
+        machine::CALL => mark_two(i.operand, i.at + 2, size, tail, seen, order),
+        _ => mark(i.at + 2, size, tail, seen, order),
     }
-    if i.number == JUMP_BACK {
-        return mark(back(i.at + 1, i.operand), size, tail, seen, order);
-    }
-    if i.number == INPUT_CHOICE {
-        return mark_choice(table, i.at + 1 + i.operand, size, tail, seen, order, passed);
-    }
-    if i.number == CALL {
-        return mark_two(i.operand, i.at + 2, size, tail, seen, order);
-    }
-    if i.number == CHOICE {
-        return mark_choice(table, i.at + 1 + i.operand, size, tail, seen, order, passed);
-    }
-    mark(i.at + 2, size, tail, seen, order)
 }
 
 // The ways from a location are marked, unless it gives 37.
@@ -375,46 +289,28 @@ fn visit(
     seen: &mut [u8],
     order: &mut [u16],
     passed: &mut [u8],
-) -> Marks
+) -> Option<usize>
     requires { Ready (table_of table.now) l size tail seen.old order.old × Passed (table_of table.now) size seen.old passed.old }
-    ensures { Through (table_of table.now) size (visit_of (table_of table.now) l (work true tail seen.old order.old)) result.ok result.tail seen.new order.new passed.new }
+    ensures { Through (table_of table.now) size (visit_of (table_of table.now) l (work true tail seen.old order.old)) result seen.new order.new passed.new }
 {
     let i = machine::word(table, l - 1);
     let n = machine::instruction_length(i);
     if n == 0 {
-        return Marks {
-            ok: false,
-            tail: tail,
-        };
+        return None;
     }
     if n == 1 {
-        return visit_one(table, l, wide(i), size, tail, seen, order);
+        return visit_one(table, l, i, size, tail, seen, order);
     }
     if size < l + 1 {
-        return Marks {
-            ok: false,
-            tail: tail,
-        };
+        return None;
     }
     let x = word_at(table, l + 1);
     let two = Instruction {
         at: l,
-        number: wide(i),
+        number: i,
         operand: x,
     };
     visit_two(table, two, size, tail, seen, order, passed)
-}
-
-// All flags are 0.
-fn clear(seen: &mut [u8])
-    requires { length seen.old ≡ 4096 }
-    ensures { seen.new ≡ replicate 4096 0 }
-{
-    let mut i: usize = 0;
-    while i < TABLE_WORDS {
-        seen[i] = 0;
-        i += 1;
-    }
 }
 
 // Whether the table is taken; a flag for each location that can be reached. `order` is room for work, and no block is passed yet.
@@ -422,21 +318,19 @@ fn reach_all(table: &[u8], seen: &mut [u8], order: &mut [u16], passed: &mut [u8]
     requires { (length seen.old ≡ 4096) × (length order.old ≡ 4096) × (passed.old ≡ replicate 256 0) }
     ensures { Tells (table_of table.now) result seen.new }
 {
-    clear(seen);
+    seen.fill(0);
     let size = size_of(table);
-    let first = mark(1, size, 0, seen, order);
-    if !first.ok {
+    let Some(mut tail) = mark(1, size, 0, seen, order) else {
         return false;
-    }
-    let mut tail = first.tail;
-    let mut head: usize = 0;
+    };
+    let mut head = 0;
+    // the row grows while it is gone through
     while head < tail {
-        let l = wide(order[head]);
-        let r = visit(table, l, size, tail, seen, order, passed);
-        if !r.ok {
+        let l = usize::from(order[head]);
+        let Some(more) = visit(table, l, size, tail, seen, order, passed) else {
             return false;
-        }
-        tail = r.tail;
+        };
+        tail = more;
         head += 1;
     }
     true
@@ -467,13 +361,9 @@ fn full_record(file: &[u8], total: usize, p: usize) -> bool
     requires { (total ≡ count file.now) × (p < 1000000) }
     ensures { result ≡ full_at (words_of file.now) p }
 {
-    if machine::word(file, p) != TABLE_MARK {
-        return false;
-    }
-    if wide(machine::word(file, p + COUNT_AT)) != RECORD_WORDS {
-        return false;
-    }
-    p + RECORD <= total
+    machine::word(file, p) == TABLE_MARK
+        && usize::from(machine::word(file, p + COUNT_AT)) == RECORD_WORDS
+        && p + RECORD <= total
 }
 
 // Whether the last record, of so many words, stands at the word p and ends the file.
@@ -481,13 +371,9 @@ fn last_record(file: &[u8], total: usize, p: usize, left: usize) -> bool
     requires { (total ≡ count file.now) × (p < 1000000) × (left ≤ 256) × (1 ≤ left) }
     ensures { result ≡ last_at (words_of file.now) p left }
 {
-    if machine::word(file, p) != TABLE_MARK {
-        return false;
-    }
-    if wide(machine::word(file, p + COUNT_AT)) != left {
-        return false;
-    }
-    p + left + RECORD_HEAD == total
+    machine::word(file, p) == TABLE_MARK
+        && usize::from(machine::word(file, p + COUNT_AT)) == left
+        && p + left + RECORD_HEAD == total
 }
 
 // Whether the records of n words stand behind the first four words.
@@ -495,51 +381,65 @@ fn are_records(file: &[u8], total: usize, n: usize) -> bool
     requires { (total ≡ count file.now) × (1 ≤ n) × (n ≤ 4096) }
     ensures { result ≡ formed 16 n (drop 4 (words_of file.now)) }
 {
-    let mut p = RECORDS_AT;
-    let mut left = n;
-    while RECORD_WORDS < left {
-        if !full_record(file, total, p) {
+    let full = (n - 1) / RECORD_WORDS;
+    for k in 0..full {
+        if !full_record(file, total, RECORDS_AT + RECORD * k) {
             return false;
         }
-        p += RECORD;
-        left -= RECORD_WORDS;
     }
-    last_record(file, total, p, left)
+    last_record(
+        file,
+        total,
+        RECORDS_AT + RECORD * full,
+        n - RECORD_WORDS * full,
+    )
 }
 
-// The words of the table that the file holds; 0 for bytes that are no file.
-fn file_words(file: &[u8]) -> usize
+// The words of the table that the file holds; None for bytes that are no file.
+fn file_words(file: &[u8]) -> Option<usize>
     ensures { result ≡ size_named file.now }
 {
-    if file.len() % 2 != 0 {
-        return 0;
+    if file.len() % 2 != 0
+        || machine::word(file, 0) != HEAD_MARK
+        || machine::word(file, COUNT_AT) != HEAD_WORDS
+    {
+        return None;
     }
-    if machine::word(file, 0) != HEAD_MARK {
-        return 0;
+    let n = usize::from(machine::word(file, LENGTH_AT));
+    if n == 0 || TABLE_WORDS < n || 1 < machine::word(file, VERDICT_AT) {
+        return None;
     }
-    if machine::word(file, COUNT_AT) != HEAD_WORDS {
-        return 0;
+    if are_records(file, machine::count_words(file), n) {
+        Some(n)
+    } else {
+        None
     }
-    let n = wide(machine::word(file, LENGTH_AT));
-    if n == 0 {
-        return 0;
-    }
-    if TABLE_WORDS < n {
-        return 0;
-    }
-    if 1 < machine::word(file, VERDICT_AT) {
-        return 0;
-    }
-    if !are_records(file, machine::count_words(file), n) {
-        return 0;
-    }
-    n
 }
 
-// What loading answers: 0, 40, 20 or 41; the words of the table; the sender's verdict word.
-#[derive(Clone, Copy)]
+// Why a table file is not loaded or not written.
+#[derive(Clone, Copy, Debug, PartialEq, Eq)]
+pub enum FileError {
+    NotFormed,
+    TooShort,
+    NotTaken,
+}
+
+// The number that C is told of it.
+impl From<FileError> for u16 {
+    ghost from_gives = { λ error n. n ≡ error_number error };
+
+    fn from(error: FileError) -> u16 {
+        match error {
+            FileError::NotFormed => base::NOT_FORMED,
+            FileError::TooShort => base::TOO_SHORT,
+            FileError::NotTaken => base::NOT_TAKEN,
+        }
+    }
+}
+
+// What is loaded: the words of the table, and the sender's verdict word.
+#[derive(Clone, Copy, Debug, PartialEq, Eq)]
 pub struct Loaded {
-    pub number: u16,
     pub words: usize,
     pub verdict: usize,
 }
@@ -549,48 +449,31 @@ fn copy_words(file: &[u8], n: usize, out: &mut [u8])
     requires { (is_file file.now ≡ true) × (n ≡ length (table_named file.now)) × (n ≤ 4096) × (2 * n ≤ length out.old) }
     ensures { out.new ≡ over (bytes_of (table_named file.now)) out.old }
 {
-    let mut k: usize = 0;
-    while k < n {
+    for k in 0..n {
         let x = machine::word(file, k + RECORD_HEAD * (k / RECORD_WORDS) + WORDS_AT);
         buffers::put_word(out, k, x);
-        k += 1;
     }
 }
 
 // A file is loaded into the lent table.
-pub fn load(file: &[u8], table: &mut [u8]) -> Loaded
-    ensures { Loads (load file.now (count table.old)) result.number result.words result.verdict table.old table.new }
+pub fn load(file: &[u8], table: &mut [u8]) -> Result<Loaded, FileError>
+    ensures { Loads (load file.now (count table.old)) result table.old table.new }
 {
-    let n = file_words(file);
-    let room = table.len() / 2;
+    let named = file_words(file);
     buffers::clear_words(table);
-    if n == 0 {
-        return Loaded {
-            number: base::NOT_FORMED,
-            words: 0,
-            verdict: 0,
-        };
+    let Some(words) = named else {
+        return Err(FileError::NotFormed);
+    };
+    if table.len() / 2 < words {
+        return Err(FileError::TooShort);
     }
-    if room < n {
-        return Loaded {
-            number: base::TOO_SHORT,
-            words: 0,
-            verdict: 0,
-        };
-    }
-    copy_words(file, n, table);
-    let end = 2 * n;
-    if !takes(&table[..end]) {
+    copy_words(file, words, table);
+    if !takes(&table[..2 * words]) {
         buffers::clear_words(table);
-        return Loaded {
-            number: base::NOT_TAKEN,
-            words: 0,
-            verdict: 0,
-        };
+        return Err(FileError::NotTaken);
     }
-    Loaded {
-        number: 0,
-        words: n,
-        verdict: wide(machine::word(file, VERDICT_AT)),
-    }
+    Ok(Loaded {
+        words,
+        verdict: usize::from(machine::word(file, VERDICT_AT)),
+    })
 }

@@ -5,8 +5,6 @@ ghost use Rattle.std.specs.Prelude.{◌≡◌, ◌<◌, get_or};
 ghost use Rattle.machine.specs.Bytes.{count, words_of};
 ghost use Rattle.machine.specs.Lengths.{length_of};
 
-use base::byte_word;
-
 // The instructions by their numbers.
 pub const JUMP_FORWARD: u16 = 1;
 
@@ -70,18 +68,11 @@ pub const LENGTHS: [usize; LAST_PLAIN] = [2, 2, 2, 1, 2, 2, 2, 2, 1, 2, 2, 1, 2]
 pub fn instruction_length(number: u16) -> usize
     ensures { result ≡ length_of number }
 {
-    let n = number as usize;
-    if n == 0 {
-        return 0;
+    match number {
+        JUMP_FORWARD..=SET_PARAMETER => LENGTHS[usize::from(number) - 1],
+        UPDATE..PAST_OPERATIONS => 1,
+        _ => 0,
     }
-    if n <= LAST_PLAIN {
-        return LENGTHS[n - 1];
-    }
-    if n < FIRST_OPERATION {
-        return 0;
-    }
-    // the operations
-    if n <= LAST_OPERATION { 1 } else { 0 }
 }
 
 // The whole words of s: an odd last byte counts for nothing.
@@ -96,7 +87,7 @@ pub fn word(s: &[u8], i: usize) -> u16
     ensures { result ≡ get_or (words_of s.now) i 0 }
 {
     if i < count_words(s) {
-        byte_word(s[2 * i]) * 256 + byte_word(s[2 * i + 1])
+        u16::from_be_bytes([s[2 * i], s[2 * i + 1]])
     } else {
         0
     }

@@ -3,7 +3,8 @@ use mathlib.Core.Bool.{Bool, true, false}
 use mathlib.Core.List.{List, [], ◌∷◌}
 use mathlib.Core.Logic.{◌⊎◌, inl, inr}
 use mathlib.Core.Path.{◌≡◌, refl, sym, ap, ◌∙◌}
-use Prim.Native.Nat.{ℕ, zero, suc, ◌+◌, ◌*◌, ◌<◌, ◌≤◌}
+use Prim.Native.Nat.{ℕ, zero, suc, ◌+◌, ◌*◌, ◌<◌, ◌≤◌, min}
+use Rattle.base.proofs.Laws.{lt-or-le}
 use native.Mathlib.Omega.{arith}
 use borrow.Author.Tests.{leb-true, leb-false}
 use lib.Dec.{leb}
@@ -87,7 +88,7 @@ entry_read text at {t} {d} {s} {o} l b h nt nd ns nq num side = record {
 
 -- Where the entries stand
 
-pub place_same : (text rows : List ℕ) (row : ℕ) (r : ℕ) → r ≡ get_or rows (8 * row + 1) 0 → r ≤ length text → PlaceOf text rows row r
+place_same : (text rows : List ℕ) (row : ℕ) (r : ℕ) → r ≡ get_or rows (8 * row + 1) 0 → r ≤ length text → PlaceOf text rows row r
 place_same text rows row r e h = record { inside = h; entries = λ os ws' x. operators-at (ap (words_at text) (sym e)) x }
 
 past-drop : (at : ℕ) (text : List ℕ) → length text < at → drop at text ≡ []
@@ -107,7 +108,7 @@ unfolding peek
 no-reference text at h (by_name t) = omega (arith, no_word text at h, ap (λ (l : List Word). (peek l).kind) t.here ∙ t.kind)
 no-reference text at h (by_string t) = omega (arith, no_word text at h, ap (λ (l : List Word). (peek l).kind) t.here ∙ t.kind)
 
-pub place-past : (text rows : List ℕ) (row : ℕ) (r : ℕ) {x : ℕ} → x ≡ get_or rows (8 * row + 1) 0 → length text < x → r ≤ length text → PlaceOf text rows row r
+place-past : (text rows : List ℕ) (row : ℕ) (r : ℕ) {x : ℕ} → x ≡ get_or rows (8 * row + 1) 0 → length text < x → r ≤ length text → PlaceOf text rows row r
 place-past text rows row r {x} e h i = record { inside = i; entries = λ os ws' y. absurd (go os ws' y) }
   where
     one : (o : Operator) (ws' : List Word) → OperatorIn (words_at text (get_or rows (8 * row + 1) 0)) ws' o → ⊥
@@ -117,13 +118,24 @@ place-past text rows row r {x} e h i = record { inside = i; entries = λ os ws' 
     go _ ws' (last_operator {o = o} a t) = one o _ a
     go _ ws' (more_operators {o = o} a n m) = one o _ a
 
+-- a place that is cut at the text's end
+pub place-cut : (text rows : List ℕ) (row : ℕ) {x r : ℕ} → x ≡ get_or rows (8 * row + 1) 0 → r ≡ min x (length text) → PlaceOf text rows row r
+place-cut text rows row {x} {r} e f = go (lt-or-le (length text) x)
+  where
+    go : (length text < x) ⊎ (x ≤ length text) → PlaceOf text rows row r
+    go (inl h) = place-past text rows row r e h (omega (arith, f))
+    go (inr h) = place_same text rows row r (omega (arith, f, e, h)) (omega (arith, f))
+
 -- Scans
 
-module _ {text : List ℕ} {at : ℕ} (above : ℕ) (s : Rank) {s' : Rank} {e : Entry} (a : AnEntry text at e) (step : s' ≡ rank_step above s e.level e.right) where
+module _ {text : List ℕ} {at : ℕ} (above : ℕ) (s : Rank) {s' : Rank} {e : Entry} (a : AnEntry text at e) (step : e.level ≤ 15 → s' ≡ rank_step above s e.level e.right) where
+  most : (o : Operator) (ws' : List Word) → OperatorIn (words_at text at) ws' o → o.level ≤ 15
+  most o ws' (one_operator r k q low high z y) = high
+
   stepped : (o : Operator) (ws' : List Word) → OperatorIn (words_at text at) ws' o → rank_step above s o.level o.right ≡ s'
   stepped o ws' x =
       let i = a.entry o ws' x in
-      ap (λ (l : ℕ). rank_step above s l o.right) i.level ∙ ap (rank_step above s e.level) i.right ∙ sym step
+      ap (λ (l : ℕ). rank_step above s l o.right) i.level ∙ ap (rank_step above s e.level) i.right ∙ sym (step (omega (arith, i.level, most o ws' x)))
 
   pub rank-last : {w : WordAt} → Next text e.emits.next w → w.kind ≡ 59 → RankDone text at above s s'
   unfolding rank_of operators_from

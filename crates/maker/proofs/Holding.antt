@@ -7,11 +7,10 @@ use mathlib.Core.Path.{◌≡◌, refl, sym, ap, ◌∙◌}
 use Prim.Native.Nat.{ℕ, zero, suc, ◌+◌, ◌*◌, ◌-◌, ◌<◌, ◌≤◌}
 use native.Mathlib.Nat.{add-zero, zero-add}
 use native.Mathlib.Omega.{arith}
-use borrow.Author.Tests.{eq-eqb, ne_eqb}
 use lib.Dec.{eqb}
 use lib.ListN.{length, get_or, set, length-set, take, drop}
 use lib.Seq.{get_or-set_same, get_or-set_other}
-use Rattle.std.specs.Prelude.{if◌then◌else◌}
+use Rattle.std.specs.Prelude.{Option as Answer, Some, None, is_some, unwrap_or, if◌then◌else◌}
 use Rattle.base.specs.Common.{given}
 use Rattle.declarations.specs.Decls.{index_of}
 use Rattle.maker.specs.Marks.{behind, use_of}
@@ -21,8 +20,7 @@ use Rattle.places.proofs.Heres.{head-here}
 use Rattle.scanner.specs.Next.{Next, as_word}
 use Rattle.scanner.specs.declared.WordAt.{WordAt}
 use Rattle.symbols.proofs.Indexing.{index-after, index-set}
-use Rattle.symbols.specs.Rows.{held, number_of}
-use Rattle.symbols.specs.Search.{Tells, there, nowhere}
+use Rattle.symbols.specs.Rows.{held, answer_of, number_of}
 use Rattle.syntax.specs.Reading.{peek}
 use Rattle.words.specs.Words.{Word, words_at}
 
@@ -30,12 +28,6 @@ use Rattle.words.specs.Words.{Word, words_at}
 
 abbrev pub is_pair : ℕ → ℕ → List ℕ → ℕ → Bool
 is_pair s o rows j = eqb (get_or rows (5633 + 3 * j) 0) s && eqb (get_or rows (5634 + 3 * j) 0) o
-
-pub pair-yes : {a b x y : ℕ} (s o : ℕ) → a ≡ x → a ≡ s → b ≡ y → eqb b o ≡ (eqb x s && eqb y o)
-pair-yes s o p q r = rw (← p, ← r, eq-eqb _ s q) refl
-
-pub pair-no : {a x s : ℕ} (t : Bool) → a ≡ x → (a ≡ s → ⊥) → false ≡ (eqb x s && t)
-pair-no {s = s} t p q = rw (← p, ne_eqb _ s q) refl
 
 pub look-first : (rows : List ℕ) (s o n : ℕ) → n ≡ get_or rows 5632 0 → look_pair s o (pairs_held rows) ≡ look_pair s o (pairs_from rows 0 (n - 0))
 unfolding pairs_held
@@ -47,10 +39,10 @@ unfolding pairs_from pair_at look_pair
 one-pair rows s o j n h = let d : n - j ≡ suc (n - suc j) = omega (arith, h) in ap (λ (k : ℕ). look_pair s o (pairs_from rows j k)) d
 
 pub look_hit : (rows : List ℕ) (s o : ℕ) {j n r : ℕ} {b : Bool} → j < n → b ≡ is_pair s o rows j → b ≡ true → look_pair s o (pairs_held rows) ≡ look_pair s o (pairs_from rows j (n - j))
-    → r ≡ get_or rows (5635 + 3 * j) 0 → r < 65536 → Tells r (look_pair s o (pairs_held rows))
-look_hit rows s o {j} {n} {r} {b} h e t i q l =
+    → r ≡ get_or rows (5635 + 3 * j) 0 → Some r ≡ answer_of (look_pair s o (pairs_held rows))
+look_hit rows s o {j} {n} {r} {b} h e t i q =
     rw (i ∙ (one-pair rows s o j n h ∙ ap (λ (x : Bool). if x then some (get_or rows (5635 + 3 * j) 0) else look_pair s o (pairs_from rows (suc j) (n - suc j))) (sym e ∙ t)))
-    (there q (omega (arith, q, l)))
+    (ap {B = Answer ℕ} Some q)
 
 pub look-on : (rows : List ℕ) (s o : ℕ) {j n : ℕ} {b : Bool} → j < n → b ≡ is_pair s o rows j → b ≡ false → look_pair s o (pairs_held rows) ≡ look_pair s o (pairs_from rows j (n - j))
     → look_pair s o (pairs_held rows) ≡ look_pair s o (pairs_from rows (j + 1) (n - (j + 1)))
@@ -59,33 +51,30 @@ look-on rows s o {j} {n} {b} h e t i =
     i ∙ (one-pair rows s o j n h ∙ (ap (λ (x : Bool). if x then some (get_or rows (5635 + 3 * j) 0) else look_pair s o (pairs_from rows (suc j) (n - suc j))) (sym e ∙ t)
     ∙ ap (λ (k : ℕ). look_pair s o (pairs_from rows k (n - k))) d))
 
-pub look-end : (rows : List ℕ) (s o : ℕ) {j n : ℕ} → n ≤ j → look_pair s o (pairs_held rows) ≡ look_pair s o (pairs_from rows j (n - j)) → Tells 65536 (look_pair s o (pairs_held rows))
+pub look-end : (rows : List ℕ) (s o : ℕ) {j n : ℕ} → n ≤ j → look_pair s o (pairs_held rows) ≡ look_pair s o (pairs_from rows j (n - j)) → None ≡ answer_of (look_pair s o (pairs_held rows))
 unfolding pairs_from look_pair
-look-end rows s o {j} {n} h i = let d : n - j ≡ 0 = omega (arith, h) in rw (i ∙ ap (λ (k : ℕ). look_pair s o (pairs_from rows j k)) d) (nowhere refl)
+look-end rows s o {j} {n} h i = let d : n - j ≡ 0 = omega (arith, h) in rw (i ∙ ap (λ (k : ℕ). look_pair s o (pairs_from rows j k)) d) refl
 
-pub lowest-there : (rows : List ℕ) (s o : ℕ) {v : ℕ} → Tells v (look_pair s o (pairs_held rows)) → v < 65536 → v ≡ lowest_in s o (pairs_held rows)
+pub lowest-found : (rows : List ℕ) (s o : ℕ) → unwrap_or (answer_of (look_pair s o (pairs_held rows))) 0 ≡ lowest_in s o (pairs_held rows)
 unfolding lowest_in
-lowest-there rows s o {v} t h = go (look_pair s o (pairs_held rows)) t
+lowest-found rows s o = go (look_pair s o (pairs_held rows))
   where
-    go : (x : Option ℕ) → Tells v x → v ≡ elim x as (λ _. ℕ) [ some w ↦ w | none ↦ 0 ]
-    go (some w) (there e l) = e
-    go none (nowhere e) = absurd (omega (arith, e, h))
+    go : (x : Option ℕ) → ◌≡◌ {A = ℕ} (unwrap_or (answer_of x) 0) (elim x as (λ _. ℕ) [ some w ↦ w | none ↦ 0 ])
+    go (some w) = refl
+    go none = refl
 
-pub lowest-none : (rows : List ℕ) (s o : ℕ) {v : ℕ} → Tells v (look_pair s o (pairs_held rows)) → 65536 ≤ v → 0 ≡ lowest_in s o (pairs_held rows)
-unfolding lowest_in
-lowest-none rows s o {v} t h = go (look_pair s o (pairs_held rows)) t
-  where
-    go : (x : Option ℕ) → Tells v x → ◌≡◌ {A = ℕ} 0 (elim x as (λ _. ℕ) [ some w ↦ w | none ↦ 0 ])
-    go (some w) (there e l) = absurd (omega (arith, e, l, h))
-    go none (nowhere e) = refl
+-- Answers of the code
 
-pub tells-given : {v : ℕ} {x : Option ℕ} → Tells v x → v < 65536 → given x ≡ true
-tells-given (there e l) h = refl
-tells-given (nowhere e) h = absurd (omega (arith, e, h))
+pub answer-given : {v : Answer ℕ} (x : Option ℕ) → v ≡ answer_of x → given x ≡ is_some v
+answer-given (some k) e = rw e refl
+answer-given none e = rw e refl
 
-pub tells-not : {v : ℕ} {x : Option ℕ} → Tells v x → 65536 ≤ v → given x ≡ false
-tells-not (there e l) h = absurd (omega (arith, e, l, h))
-tells-not (nowhere e) h = refl
+pub never-none : {A : Type 0} {v : A} → ◌≡◌ {A = Answer A} None (Some v) → ⊥
+never-none e = let z : ◌≡◌ {A = ℕ} 0 1 = cc in omega (arith, z)
+
+answer-number : {i : ℕ} (x : Option ℕ) → Some i ≡ answer_of x → i ≡ number_of x
+answer-number none e = absurd (never-none (sym e))
+answer-number (some v) e = cc
 
 -- One pair more
 
@@ -199,20 +188,33 @@ module _ (text : List ℕ) (at : ℕ) {s c o : WordAt} (ns : Next text at s) (nc
       let b = behind-here text s.next nc peek (λ e. omega (arith, e)) (ap (λ (l : List Word). (peek (behind l)).kind) (sym a) ∙ k) in
       ap (λ (l : List Word). peek (behind l)) a ∙ (ap peek b ∙ head-here text c.next o nq)
 
-tells-some : {r v : ℕ} {x : Option ℕ} → x ≡ some v → Tells r x → r < 65536
-tells-some e (there q l) = omega (arith, q, l)
-tells-some e (nowhere q) = let z : ◌≡◌ {A = ℕ} 0 1 = cc in absurd (omega (arith, z))
+module _ (text rows : List ℕ) (n at : ℕ) {s c o : WordAt} (ns : Next text at s) (nc : Next text s.next c) (nq : Next text c.next o) where
+  abbrev section-of : Option ℕ
+  section-of = index_of 600 (take s.len (drop s.start text)) 0 (held text rows n)
 
-pub use-read : (text rows : List ℕ) (n at : ℕ) {s c o : WordAt} {i j : ℕ} {b : Bool} → Next text at s → Next text s.next c → Next text c.next o
-    → i ≡ number_of (index_of 600 (take s.len (drop s.start text)) 0 (held text rows n)) → Tells i (index_of 600 (take s.len (drop s.start text)) 0 (held text rows n)) → (i < 65536 → i < n)
-    → j ≡ number_of (index_of 7 (take o.len (drop o.start text)) 0 (held text rows n)) → Tells j (index_of 7 (take o.len (drop o.start text)) 0 (held text rows n)) → (j < 65536 → j < n)
-    → (b ≡ true → (i < 65536) × (j < 65536)) → (i < 65536 → j < 65536 → b ≡ true) → UseRead text rows n at (record { there = b; section = i; operand = j })
-unfolding section_row operand_row
-use-read text rows n at {s} {c} {o} {i} {j} {b} ns nc nq ei ti li ej tj lj f g = record {
-  section = λ e. li (f e).0;
-  operand = λ e. lj (f e).1;
-  finds = λ w k q.
-      let x = ap (λ (v : Word). index_of 600 v.text 0 (held text rows n)) (section-is text at ns nc nq w k) in
-      let y = ap (λ (v : Word). index_of 7 v.text 0 (held text rows n)) (operand-is text at ns nc nq w k) in
-      record { there = g (tells-some (sym x ∙ q.section) ti) (tells-some (sym y ∙ q.operand) tj); section = ei ∙ ap number_of (sym x); operand = ej ∙ ap number_of (sym y) };
-}
+  abbrev operand-of : Option ℕ
+  operand-of = index_of 7 (take o.len (drop o.start text)) 0 (held text rows n)
+
+  section-same : (w : Word) → (use_of w (words_at text at)).operand.kind ≡ 257 → index_of 600 (use_of w (words_at text at)).section.text 0 (held text rows n) ≡ section-of
+  section-same w k = ap (λ (v : Word). index_of 600 v.text 0 (held text rows n)) (section-is text at ns nc nq w k)
+
+  operand-same : (w : Word) → (use_of w (words_at text at)).operand.kind ≡ 257 → index_of 7 (use_of w (words_at text at)).operand.text 0 (held text rows n) ≡ operand-of
+  operand-same w k = ap (λ (v : Word). index_of 7 v.text 0 (held text rows n)) (operand-is text at ns nc nq w k)
+
+  pub no-section : None ≡ answer_of section-of → UseRead text rows n at None
+  no-section e = record { low = tt; finds = λ w k q. absurd (never-none (e ∙ ap answer_of (sym (section-same w k) ∙ q.section))) }
+
+  pub no-operand : None ≡ answer_of operand-of → UseRead text rows n at None
+  no-operand e = record { low = tt; finds = λ w k q. absurd (never-none (e ∙ ap answer_of (sym (operand-same w k) ∙ q.operand))) }
+
+  pub use-read : {i j : ℕ} → Some i ≡ answer_of section-of → i < n → Some j ≡ answer_of operand-of → j < n → UseRead text rows n at (Some (record { section = i; operand = j }))
+  unfolding section_row operand_row
+  use-read {i} {j} e l f m = record {
+    low = (l, m);
+    finds = λ w k q. record {
+      used = record { section = i; operand = j };
+      there = refl;
+      section = answer-number section-of e ∙ ap number_of (sym (section-same w k));
+      operand = answer-number operand-of f ∙ ap number_of (sym (operand-same w k));
+    };
+  }

@@ -7,13 +7,13 @@ use Prim.Native.Nat.{ℕ, zero, suc, ◌+◌, ◌-◌, ◌<◌, ◌≤◌}
 use native.Mathlib.Nat.{add-zero, zero-add}
 use native.Mathlib.Omega.{arith}
 use borrow.Author.Tests.{eq-eqb, ne_eqb, le-leb, lt-leb, lt-ltb, le-ltb}
-use lib.Dec.{eqb, ltb}
+use lib.Dec.{eqb, leb, ltb}
 use lib.ListN.{length, length-append}
 use Rattle.base.proofs.Laws.{lt-or-le}
-use Rattle.std.specs.Prelude.{if◌then◌else◌}
+use Rattle.std.specs.Prelude.{Option, Some, None, if◌then◌else◌}
 use Rattle.declarations.specs.Decls.{Decl, operators_from}
 use Rattle.grammar.specs.Derived.{one_operator, OperatorsIn, last_operator, more_operators}
-use Rattle.maker.specs.Ranks.{no_rank, rank_step, rank_of, RankDone, RankBound, LevelsDone}
+use Rattle.maker.specs.Ranks.{no_rank, rank_or, next_rank, rank_step, rank_of, RankDone, RankBound, LevelsDone}
 use Rattle.maker.specs.declared.Rank.{Rank}
 use Rattle.program.specs.Made.{Operator, Level, at_level, level_and, levels_from, levels_of, crowded}
 use Rattle.syntax.specs.Written as written
@@ -250,34 +250,95 @@ unfolding operators_from
 levels-some ds _ (last_operator (one_operator r k q a b z y) t) = some_level _ _ a b
 levels-some ds _ (more_operators (one_operator r k q a b z y) n m) = some_level _ _ a b
 
--- Bounds
+-- The step where no rank may have been found
 
-pub bound-step : (above : ℕ) (s : Rank) (l : ℕ) (b : Bool) {s' : Rank} → s' ≡ rank_step above s l b → RankBound above s → RankBound above s'
-bound-step above s l b {s'} e h = rw e (low (lt-or-le above l))
-  where
-    new : above < l → l ≤ s.level → (l < s.level) ⊎ (s.level ≤ l) → RankBound above (rank_step above s l b)
-    new g k (inl d) = rw (step-new above s l b g d) (record { higher = g; most = omega (arith, d, h.most) })
-    new g k (inr d) = rw (step_same above s l b g k d) (record { higher = h.higher; most = h.most })
+tests-off : (above level : ℕ) → above < level → level ≤ 15 → (leb level above || ltb 15 level) ≡ false
+tests-off above level h g = rw (lt-leb level above h, le-ltb 15 level g) refl
 
-    high : above < l → (s.level < l) ⊎ (l ≤ s.level) → RankBound above (rank_step above s l b)
-    high g (inl d) = rw (step-high above s l b g d) h
-    high g (inr d) = new g d (lt-or-le l s.level)
+module _ (above : ℕ) (level : ℕ) (right : Bool) where
+  pub next-low : (best : Option Rank) → level ≤ above → best ≡ next_rank above best level right
+  unfolding next_rank
+  next-low best h = rw (le-leb level above h) refl
 
-    low : (above < l) ⊎ (l ≤ above) → RankBound above (rank_step above s l b)
-    low (inl g) = high g (lt-or-le s.level l)
-    low (inr g) = rw (step-low above s l b g) h
+  pub next-past : (best : Option Rank) → above < level → 15 < level → best ≡ next_rank above best level right
+  unfolding next_rank
+  next-past best h g = rw (lt-leb level above h, lt-ltb 15 level g) refl
 
-pub count-step : (above : ℕ) (s : Rank) (l : ℕ) (b : Bool) {s' : Rank} → s' ≡ rank_step above s l b → s'.count ≤ s.count + 1
-count-step above s l b {s'} e = rw e (low (lt-or-le above l))
-  where
-    new : above < l → l ≤ s.level → (l < s.level) ⊎ (s.level ≤ l) → (rank_step above s l b).count ≤ s.count + 1
-    new g k (inl d) = rw (step-new above s l b g d) (omega arith)
-    new g k (inr d) = rw (step_same above s l b g k d) (omega arith)
+  module _ (h : above < level) (g : level ≤ 15) where
+    pub next-first : Some (record { level = level; count = 1; right = right }) ≡ next_rank above None level right
+    unfolding next_rank
+    next-first = rw (tests-off above level h g) refl
 
-    high : above < l → (s.level < l) ⊎ (l ≤ s.level) → (rank_step above s l b).count ≤ s.count + 1
-    high g (inl d) = rw (step-high above s l b g d) (omega arith)
-    high g (inr d) = new g d (lt-or-le l s.level)
+    pub next-high : (s : Rank) → s.level < level → Some s ≡ next_rank above (Some s) level right
+    unfolding next_rank
+    next-high s d = rw (tests-off above level h g, lt-ltb s.level level d) refl
 
-    low : (above < l) ⊎ (l ≤ above) → (rank_step above s l b).count ≤ s.count + 1
-    low (inl g) = high g (lt-or-le s.level l)
-    low (inr g) = rw (step-low above s l b g) (omega arith)
+    pub next-same : (s : Rank) → s.level ≡ level → Some (record { level = s.level; count = s.count + 1; right = s.right }) ≡ next_rank above (Some s) level right
+    unfolding next_rank
+    next-same s d = rw (tests-off above level h g, le-ltb s.level level (omega (arith, d)), eq-eqb s.level level d) refl
+
+    pub next-new : (s : Rank) → level < s.level → Some (record { level = level; count = 1; right = right }) ≡ next_rank above (Some s) level right
+    unfolding next_rank
+    next-new s d = rw (tests-off above level h g, le-ltb s.level level (omega (arith, d)), ne_eqb s.level level (λ e. omega (arith, e, d))) refl
+
+  -- the same as with a rank above all levels
+  pub rank-next : (best : Option Rank) → level ≤ 15 → rank_or (next_rank above best level right) ≡ rank_step above (rank_or best) level right
+  unfolding no_rank
+  rank-next best g = low best (lt-or-le above level)
+    where
+      new : (s : Rank) → above < level → level ≤ s.level → (level < s.level) ⊎ (s.level ≤ level) → rank_or (next_rank above (Some s) level right) ≡ rank_step above s level right
+      new s h k (inl d) = rw (← next-new h g s d) (sym (step-new above s level right h d))
+      new s h k (inr d) = rw (← next-same h g s (omega (arith, k, d))) (sym (step_same above s level right h k d))
+
+      high : (s : Rank) → above < level → (s.level < level) ⊎ (level ≤ s.level) → rank_or (next_rank above (Some s) level right) ≡ rank_step above s level right
+      high s h (inl d) = rw (← next-high h g s d) (sym (step-high above s level right h d))
+      high s h (inr d) = new s h d (lt-or-le level s.level)
+
+      low : (o : Option Rank) → (above < level) ⊎ (level ≤ above) → rank_or (next_rank above o level right) ≡ rank_step above (rank_or o) level right
+      low None (inl h) = rw (← next-first h g) (sym (step-new above no_rank level right h (omega (arith, g))))
+      low (Some s) (inl h) = high s h (lt-or-le s.level level)
+      low o (inr h) = rw (← next-low o h) (sym (step-low above (rank_or o) level right h))
+
+  -- what is kept
+  record Kept (o r : Option Rank) : Type 0 where
+    bound : RankBound above o → RankBound above r
+    count : (rank_or r).count ≤ (rank_or o).count + 1
+
+  kept : (best : Option Rank) → Kept best (next_rank above best level right)
+  unfolding no_rank
+  kept best = low best (lt-or-le above level) (lt-or-le 15 level)
+    where
+      some : (s : Rank) → (h : above < level) → (g : level ≤ 15) → (level < s.level) ⊎ (s.level ≤ level) → (s.level < level) ⊎ (level ≤ s.level) → Kept (Some s) (next_rank above (Some s) level right)
+      some s h g (inl d) e = rw (← next-new h g s d) (record { bound = λ f. (h, g); count = omega arith })
+      some s h g (inr d) (inl e) = rw (← next-high h g s e) (record { bound = λ f. f; count = omega arith })
+      some s h g (inr d) (inr e) = rw (← next-same h g s (omega (arith, d, e))) (record { bound = λ f. f; count = omega arith })
+
+      low : (o : Option Rank) → (above < level) ⊎ (level ≤ above) → (15 < level) ⊎ (level ≤ 15) → Kept o (next_rank above o level right)
+      low o (inr h) g = rw (← next-low o h) (record { bound = λ f. f; count = omega arith })
+      low o (inl h) (inl g) = rw (← next-past o h g) (record { bound = λ f. f; count = omega arith })
+      low None (inl h) (inr g) = rw (← next-first h g) (record { bound = λ f. (h, g); count = omega arith })
+      low (Some s) (inl h) (inr g) = some s h g (lt-or-le level s.level) (lt-or-le s.level level)
+
+pub bound-next : (above : ℕ) (best : Option Rank) {r : Option Rank} (level : ℕ) (right : Bool) → r ≡ next_rank above best level right → RankBound above best → RankBound above r
+bound-next above best level right e f = rw e ((kept above level right best).bound f)
+
+pub count-next : (above : ℕ) (best : Option Rank) {r : Option Rank} (level : ℕ) (right : Bool) → r ≡ next_rank above best level right → (rank_or r).count ≤ (rank_or best).count + 1
+count-next above best level right e = rw e (kept above level right best).count
+
+-- the rank that was found, or one above all levels
+
+pub rank-above : (above : ℕ) (r : Option Rank) → above ≤ 15 → RankBound above r → (above < (rank_or r).level) × ((rank_or r).level ≤ 16)
+unfolding no_rank
+rank-above above None h f = (omega arith, omega arith)
+rank-above above (Some s) h f = (f.0, omega (arith, f.1))
+
+pub bound-zero : (above : ℕ) (r : Option Rank) → RankBound above r → RankBound 0 r
+bound-zero above None f = f
+bound-zero above (Some s) f = (omega (arith, f.0), f.1)
+
+pub rank-none : (r : Option Rank) → r ≡ None → (rank_or r).level ≡ 16
+unfolding no_rank
+rank-none r e = rw e refl
+
+pub rank-step : (above : ℕ) (best : Option Rank) {r : Option Rank} (level : ℕ) (right : Bool) → r ≡ next_rank above best level right → level ≤ 15 → rank_or r ≡ rank_step above (rank_or best) level right
+rank-step above best level right e h = ap rank_or e ∙ rank-next above level right best h

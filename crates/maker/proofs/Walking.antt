@@ -13,7 +13,9 @@ use lib.ListN.{length, get_or, set, take, drop, length-take, length-drop}
 use lib.Seq.{get_or-set_same}
 use Rattle.base.proofs.Laws.{same-eq, same_refl}
 use Rattle.base.specs.Bools.{never}
-use Rattle.std.specs.Prelude.{if◌then◌else◌}
+use Rattle.std.specs.Prelude.{Result, Ok, Err, if◌then◌else◌}
+use Rattle.base.specs.declared.Fault.TheVariants.{OverLimit as a_limit}
+use Rattle.base.specs.declared.Refusal.{Refusal}
 use Rattle.base.specs.Common.{given, same}
 use Rattle.declarations.specs.Decls.{Agrees, Decl, EntriesAt, entries_of, decl_of, index_of}
 use Rattle.grammar.specs.Derived.{RulesIn}
@@ -23,8 +25,8 @@ use Rattle.maker.proofs.Taking.{row_at, row-less}
 use Rattle.maker.specs.Marks.{use_of, marks}
 use Rattle.maker.specs.Pairs.{Pair, pairs_from, pairs_held, look_pair, lowest_in, section_row, operand_row, Ordered, AllOrdered, pair_of, pairs_mean, PairsAre}
 use Rattle.maker.specs.Pairing.{NoSection, is_there, passes, Takes, again, added, over, UseDone, WordDone, Stands, AllNamed, PairsEnd, paired, passed, PairsFrom, PairsDone}
-use Rattle.maker.specs.declared.Paired.{Paired}
-use Rattle.maker.specs.declared.Taken.{Taken}
+use Rattle.maker.specs.declared.Untaken.{Untaken}
+use Rattle.maker.specs.declared.Untaken.TheVariants.{NotInOrder, OverLimit}
 use Rattle.names.specs.Declare.{known_rules}
 use Rattle.names.specs.Known.{Checked, good, wrong, ◌>>=◌, KnownRule, Names}
 use Rattle.names.specs.Uses.{Use, rules_uses, same_pair, is_used, firsts, pairs_of, levels_used, lowest_of, operand_of, made_for}
@@ -42,12 +44,12 @@ use Rattle.words.specs.Words.{Word, words_at}
 
 -- A word
 
-pub word-caret : {text rows rows' : List ℕ} {n others own : ℕ} {w : WordAt} {r : Taken} → w.kind ≡ 94 → UseDone text rows n others own w.next rows' r → WordDone text rows n others own w rows' r
+pub word-caret : {text rows rows' : List ℕ} {n others own : ℕ} {w : WordAt} {r : Result ℕ Untaken} → w.kind ≡ 94 → UseDone text rows n others own w.next rows' r → WordDone text rows n others own w rows' r
 word-caret k u = record { bound = u.bound; caret = λ _. u; other = λ f. absurd (f k) }
 
 pub word-other : {text rows : List ℕ} {n others own : ℕ} {w : WordAt} → (w.kind ≡ 94 → ⊥) → own ≤ 128 → get_or rows 5632 0 ≤ own
-    → WordDone text rows n others own w rows (record { fault = 0; own = own })
-word-other {rows = rows} k f g = record { bound = record { index = index_same rows; few = f; count = g }; caret = λ e. absurd (k e); other = λ _. (refl, refl, refl) }
+    → WordDone text rows n others own w rows (Ok own)
+word-other {rows = rows} k f g = record { bound = record { index = index_same rows; few = f; count = g }; caret = λ e. absurd (k e); other = λ _. (refl, refl) }
 
 -- Pairs are the same by their texts and by their declarations
 
@@ -153,46 +155,46 @@ module _ {text : List ℕ} {i : ℕ} {w : WordAt} (h : Next text i w) where
       go = rw (ne_eqb w.kind 266 k, ne_eqb w.kind 94 m) refl
 
 -- what is promised of the uses us from here on
-record Ends (text rows : List ℕ) (n others own : ℕ) (rows' : List ℕ) (r : Paired) (us : List Use) : Type 0 where
+record Ends {A : Type 0} (text rows : List ℕ) (n others own : ℕ) (rows' : List ℕ) (r : Result A Refusal) (us : List Use) : Type 0 where
   ends : (p : Program) (names : Names) (ks : List KnownRule) → Agrees p names ks (held text rows n) → EntriesAt text (held text rows n) (entries_of p)
       → (seen : List Use) → Stands (held text rows n) (pairs_held rows) seen → AllNamed us → AllOrdered (held text rows n) us
       → PairsEnd (held text rows n) (pairs_held rows) rows' names own (firsts seen us) r (made_for names ks others own (firsts seen us))
 
-from-marks : {text rows rows' : List ℕ} {n others own i : ℕ} {r : Paired} {us : List Use} → marks (words_at text i) ≡ us → IndexKept rows rows' → Ends text rows n others own rows' r us → PairsFrom text rows n others own i rows' r
+from-marks : {A : Type 0} {text rows rows' : List ℕ} {n others own i : ℕ} {r : Result A Refusal} {us : List Use} → marks (words_at text i) ≡ us → IndexKept rows rows' → Ends text rows n others own rows' r us → PairsFrom text rows n others own i rows' r
 from-marks e k f = record { index = k; done = λ p names ks ag en seen st. rw e (f.ends p names ks ag en seen st) }
 
-ends-none : {text rows : List ℕ} {n others own : ℕ} {r : Paired} → r.fault ≡ 0 → Ends text rows n others own rows r []
+ends-none : {A : Type 0} {text rows : List ℕ} {n others own : ℕ} {a : A} → Ends text rows n others own rows (Ok a) []
 unfolding firsts made_for pairs_mean
-ends-none {rows = rows} z = record { ends = λ p names ks ag en seen st nm or. paired z (sym (append-nil (pairs_held rows))) }
+ends-none {rows = rows} = record { ends = λ p names ks ag en seen st nm or. paired refl (sym (append-nil (pairs_held rows))) }
 
 -- a pair that was added stands before those found later
-end_more : {ds : List Decl} {qs : List Pair} {rows' : List ℕ} {names : Names} {own : ℕ} {fs : List Use} {r : Paired} (u : Use) (f : List means.Rule → List means.Rule) (m : Checked (List means.Rule))
+end_more : {A : Type 0} {ds : List Decl} {qs : List Pair} {rows' : List ℕ} {names : Names} {own : ℕ} {fs : List Use} {r : Result A Refusal} (u : Use) (f : List means.Rule → List means.Rule) (m : Checked (List means.Rule))
     → PairsEnd ds (qs ++ (pair_of ds own u ∷ [])) rows' names (own + length (levels_used names u)) fs r m → PairsEnd ds qs rows' names own (u ∷ fs) r (◌>>=◌ m (λ ms. good (f ms)))
 unfolding pairs_mean
-end_more {ds} {qs} {names = names} {own} {fs} u f (good ms) (paired z e) = paired z (e ∙ append_assoc qs (pair_of ds own u ∷ []) (pairs_mean names ds (own + length (levels_used names u)) fs))
-end_more u f (wrong _ w) (passed z a l) = passed z a l
+end_more {ds = ds} {qs} {names = names} {own} {fs} u f (good ms) (paired z e) = paired z (e ∙ append_assoc qs (pair_of ds own u ∷ []) (pairs_mean names ds (own + length (levels_used names u)) fs))
+end_more u f (wrong _ w) (passed e z a l) = passed e z a l
 
-end-as : {ds ds₁ : List Decl} {qs qs₁ : List Pair} {rows' : List ℕ} {names : Names} {own own₁ : ℕ} (ks : List KnownRule) {fs : List Use} {r : Paired} (others : ℕ) → ds₁ ≡ ds → qs₁ ≡ qs → own₁ ≡ own
+end-as : {A : Type 0} {ds ds₁ : List Decl} {qs qs₁ : List Pair} {rows' : List ℕ} {names : Names} {own own₁ : ℕ} (ks : List KnownRule) {fs : List Use} {r : Result A Refusal} (others : ℕ) → ds₁ ≡ ds → qs₁ ≡ qs → own₁ ≡ own
     → PairsEnd ds₁ qs₁ rows' names own₁ fs r (made_for names ks others own₁ fs) → PairsEnd ds qs rows' names own fs r (made_for names ks others own fs)
 end-as ks others a b c e = rw (← a, ← b, ← c) e
 
 -- the same pairs stand there
-ends_same : {text rows rows₁ rows' : List ℕ} {n others own own₁ : ℕ} {r : Paired} {us : List Use} → n ≤ 512 → IndexKept rows rows₁ → own₁ ≡ own → pairs_held rows₁ ≡ pairs_held rows
+ends_same : {A : Type 0} {text rows rows₁ rows' : List ℕ} {n others own own₁ : ℕ} {r : Result A Refusal} {us : List Use} → n ≤ 512 → IndexKept rows rows₁ → own₁ ≡ own → pairs_held rows₁ ≡ pairs_held rows
     → Ends text rows₁ n others own₁ rows' r us → Ends text rows n others own rows' r us
-ends_same {text} {rows} {rows₁} {n = n} {others} few kept o q f = record {
+ends_same {text = text} {rows} {rows₁} {n = n} {others} few kept o q f = record {
   ends = λ p names ks ag en seen st nm or.
       let same : held text rows₁ n ≡ held text rows n = held-behind text n kept few in
       end-as ks others same q o (f.ends p names ks (rw same ag) (rw same en) seen (rw same (stands-as seen q st)) nm (rw same or));
 }
 
 -- one stands behind them
-ends-added : {text rows rows₁ rows' : List ℕ} {n others own₁ : ℕ} {r : Paired} (own : ℕ) (u : Use) {us : List Use} → n ≤ 512 → IndexKept rows rows₁ → Ends text rows₁ n others own₁ rows' r us
+ends-added : {A : Type 0} {text rows rows₁ rows' : List ℕ} {n others own₁ : ℕ} {r : Result A Refusal} (own : ℕ) (u : Use) {us : List Use} → n ≤ 512 → IndexKept rows rows₁ → Ends text rows₁ n others own₁ rows' r us
     → (p : Program) (names : Names) (ks : List KnownRule) → Agrees p names ks (held text rows n) → EntriesAt text (held text rows n) (entries_of p)
     → (seen : List Use) → Stands (held text rows n) (pairs_held rows) seen → AllNamed us → AllOrdered (held text rows n) us → Ordered (held text rows n) u
     → own₁ ≡ own + length (levels_used names u) → pairs_held rows₁ ≡ pairs_held rows ++ (pair_of (held text rows n) own u ∷ [])
     → PairsEnd (held text rows n) (pairs_held rows ++ (pair_of (held text rows n) own u ∷ [])) rows' names (own + length (levels_used names u)) (firsts (u ∷ seen) us) r
     (made_for names ks others (own + length (levels_used names u)) (firsts (u ∷ seen) us))
-ends-added {text} {rows} {rows₁} {n = n} {others} own u few kept f p names ks ag en seen st nm or ou o q =
+ends-added {text = text} {rows} {rows₁} {n = n} {others} own u few kept f p names ks ag en seen st nm or ou o q =
     let same : held text rows₁ n ≡ held text rows n = held-behind text n kept few in
     end-as ks others same q o
     (f.ends p names ks (rw same ag) (rw same en) (u ∷ seen) (rw same (stands-as (u ∷ seen) q (stands-more (pairs_held rows) seen own u st ou))) nm (rw same or))
@@ -225,77 +227,117 @@ word-long text start len h = simp (length-take, length-drop) (omega arith)
 abbrev own-use : List ℕ → WordAt → Use
 own-use text w = use_of (as_word text w) (words_at text w.next)
 
-ends-use : {text rows rows₁ rows' : List ℕ} {n others own : ℕ} {t : Taken} {r : Paired} {us : List Use} (w : WordAt) → n ≤ 512 → UseDone text rows n others own w.next rows₁ t → t.fault ≡ 0
-    → Ends text rows₁ n others t.own rows' r us → Ends text rows n others own rows' r (own-use text w ∷ us)
+-- outcomes of a use differ
+same-own : {a b : ℕ} → ◌≡◌ {A = Result ℕ Untaken} (Ok a) (Ok b) → a ≡ b
+same-own e = cc
+
+never-ok : {a : ℕ} {e : Untaken} → ◌≡◌ {A = Result ℕ Untaken} (Ok a) (Err e) → ⊥
+never-ok e = let z : ◌≡◌ {A = ℕ} 0 1 = cc in omega (arith, z)
+
+never-both : ◌≡◌ {A = Result ℕ Untaken} (Err NotInOrder) (Err OverLimit) → ⊥
+never-both e = let z : ◌≡◌ {A = ℕ} 0 1 = cc in omega (arith, z)
+
+ends-use : {A : Type 0} {text rows rows₁ rows' : List ℕ} {n others own own₁ : ℕ} {r : Result A Refusal} {us : List Use} (w : WordAt) → n ≤ 512 → UseDone text rows n others own w.next rows₁ (Ok own₁)
+    → Ends text rows₁ n others own₁ rows' r us → Ends text rows n others own rows' r (own-use text w ∷ us)
 unfolding AllNamed AllOrdered
-ends-use {text} {rows} {rows₁} {rows'} {n} {others} {own} {t} {r} {us} w few d z f = record { ends = go }
+ends-use {text = text} {rows} {rows₁} {rows'} {n} {others} {own} {own₁} {r} {us} w few d f = record { ends = go }
   where
     go : (p : Program) (names : Names) (ks : List KnownRule) → Agrees p names ks (held text rows n) → EntriesAt text (held text rows n) (entries_of p)
         → (seen : List Use) → Stands (held text rows n) (pairs_held rows) seen → AllNamed (own-use text w ∷ us) → AllOrdered (held text rows n) (own-use text w ∷ us)
         → PairsEnd (held text rows n) (pairs_held rows) rows' names own (firsts seen (own-use text w ∷ us)) r (made_for names ks others own (firsts seen (own-use text w ∷ us)))
     go p names ks ag en seen st nm or = by (d.takes p names ks ag en (as_word text w) nm.0 or.0)
       where
-        by : Takes (held text rows n) others own rows rows₁ names (own-use text w) t
+        by : Takes (held text rows n) others own rows rows₁ names (own-use text w) (Ok own₁)
             → PairsEnd (held text rows n) (pairs_held rows) rows' names own (firsts seen (own-use text w ∷ us)) r (made_for names ks others own (firsts seen (own-use text w ∷ us)))
-        by (again e o q h) = rw (first-again (own-use text w) seen us (sym (st (own-use text w) or.0) ∙ h)) ((ends_same few d.bound.index o q f).ends p names ks ag en seen st nm.1 or.1)
-        by (added e o q h l) =
+        by (again o q h) = rw (first-again (own-use text w) seen us (sym (st (own-use text w) or.0) ∙ h)) ((ends_same few d.bound.index (same-own o) q f).ends p names ks ag en seen st nm.1 or.1)
+        by (added o q h l) =
             rw (first-new (own-use text w) seen us (sym (st (own-use text w) or.0) ∙ h), made-fits names ks others own (own-use text w) (firsts (own-use text w ∷ seen) us) l)
             (end_more (own-use text w) (λ ms. level_rules own (operand_of ks (own-use text w)) (levels_used names (own-use text w)) ++ ms)
             (made_for names ks others (own + length (levels_used names (own-use text w))) (firsts (own-use text w ∷ seen) us))
-            (ends-added own (own-use text w) few d.bound.index f p names ks ag en seen st nm.1 or.1 or.0 o q))
-        by (over e h l) = absurd (omega (arith, e, z))
+            (ends-added own (own-use text w) few d.bound.index f p names ks ag en seen st nm.1 or.1 or.0 (same-own o) q))
+        by (over e h l) = absurd (never-ok e)
 
-ends-over : {text rows rows₁ : List ℕ} {n others own : ℕ} {t : Taken} {us : List Use} (w : WordAt) → UseDone text rows n others own w.next rows₁ t → (t.fault ≡ 0 → ⊥) → w.start + w.len ≤ length text
-    → Ends text rows n others own rows₁ (record { fault = t.fault; at = w.start; len = w.len }) (own-use text w ∷ us)
+-- rules that pass a limit, as the code says it
+abbrev pub past-limit : {A : Type 0} → WordAt → Result A Refusal
+past-limit w = Err (record { fault = a_limit; at = w.start; len = w.len })
+
+ends-over : {A : Type 0} {text rows rows₁ : List ℕ} {n others own : ℕ} {us : List Use} (w : WordAt) → UseDone text rows n others own w.next rows₁ (Err OverLimit) → w.start + w.len ≤ length text
+    → Ends {A = A} text rows n others own rows₁ (past-limit w) (own-use text w ∷ us)
 unfolding AllNamed AllOrdered
-ends-over {text} {rows} {rows₁} {n} {others} {own} {t} {us} w d z inside = record { ends = go }
+ends-over {A = A} {text} {rows} {rows₁} {n} {others} {own} {us} w d inside = record { ends = go }
   where
     go : (p : Program) (names : Names) (ks : List KnownRule) → Agrees p names ks (held text rows n) → EntriesAt text (held text rows n) (entries_of p)
         → (seen : List Use) → Stands (held text rows n) (pairs_held rows) seen → AllNamed (own-use text w ∷ us) → AllOrdered (held text rows n) (own-use text w ∷ us)
-        → PairsEnd (held text rows n) (pairs_held rows) rows₁ names own (firsts seen (own-use text w ∷ us)) (record { fault = t.fault; at = w.start; len = w.len })
+        → PairsEnd {A = A} (held text rows n) (pairs_held rows) rows₁ names own (firsts seen (own-use text w ∷ us)) (past-limit w)
         (made_for names ks others own (firsts seen (own-use text w ∷ us)))
     go p names ks ag en seen st nm or = by (d.takes p names ks ag en (as_word text w) nm.0 or.0)
       where
-        by : Takes (held text rows n) others own rows rows₁ names (own-use text w) t
-            → PairsEnd (held text rows n) (pairs_held rows) rows₁ names own (firsts seen (own-use text w ∷ us)) (record { fault = t.fault; at = w.start; len = w.len })
+        by : Takes (held text rows n) others own rows rows₁ names (own-use text w) (Err OverLimit)
+            → PairsEnd {A = A} (held text rows n) (pairs_held rows) rows₁ names own (firsts seen (own-use text w ∷ us)) (past-limit w)
             (made_for names ks others own (firsts seen (own-use text w ∷ us)))
-        by (again e o q h) = absurd (z e)
-        by (added e o q h l) = absurd (z e)
+        by (again o q h) = absurd (never-ok (sym o))
+        by (added o q h l) = absurd (never-ok (sym o))
         by (over e h l) =
             rw (first-new (own-use text w) seen us (sym (st (own-use text w) or.0) ∙ h), made-over names ks others own (own-use text w) (firsts (own-use text w ∷ seen) us) l)
-            (passed e (ap (λ (v : Word). v.start) (sym (sign_of (as_word text w) (words_at text w.next))))
+            (passed refl refl (ap (λ (v : Word). v.start) (sym (sign_of (as_word text w) (words_at text w.next))))
             (word-long text w.start w.len inside ∙ ap (λ (v : Word). length v.text) (sym (sign_of (as_word text w) (words_at text w.next)))))
+
+-- no use that is in order ends the pairs
+ends-unordered : {A : Type 0} {text rows rows₁ : List ℕ} {n others own : ℕ} {r : Result A Refusal} {us : List Use} (w : WordAt) → UseDone text rows n others own w.next rows₁ (Err NotInOrder)
+    → Ends text rows n others own rows₁ r (own-use text w ∷ us)
+unfolding AllNamed AllOrdered
+ends-unordered {text = text} {rows} {rows₁} {n} {others} {own} {r} {us} w d = record { ends = go }
+  where
+    go : (p : Program) (names : Names) (ks : List KnownRule) → Agrees p names ks (held text rows n) → EntriesAt text (held text rows n) (entries_of p)
+        → (seen : List Use) → Stands (held text rows n) (pairs_held rows) seen → AllNamed (own-use text w ∷ us) → AllOrdered (held text rows n) (own-use text w ∷ us)
+        → PairsEnd (held text rows n) (pairs_held rows) rows₁ names own (firsts seen (own-use text w ∷ us)) r (made_for names ks others own (firsts seen (own-use text w ∷ us)))
+    go p names ks ag en seen st nm or = absurd (by (d.takes p names ks ag en (as_word text w) nm.0 or.0))
+      where
+        by : Takes (held text rows n) others own rows rows₁ names (own-use text w) (Err NotInOrder) → ⊥
+        by (again o q h) = never-ok (sym o)
+        by (added o q h l) = never-ok (sym o)
+        by (over e h l) = never-both e
 
 -- The loop
 
-pub pairs-stop : {text rows : List ℕ} {n others own i : ℕ} {w : WordAt} {r : Paired} → Next text i w → w.kind < 2 → r.fault ≡ 0 → PairsFrom text rows n others own i rows r
-pairs-stop {rows = rows} h k z = from-marks (marks-end h k) (index_same rows) (ends-none z)
+pub pairs-stop : {A : Type 0} {text rows : List ℕ} {n others own i : ℕ} {w : WordAt} {a : A} → Next text i w → w.kind < 2 → PairsFrom text rows n others own i rows (Ok a)
+pairs-stop {rows = rows} h k = from-marks (marks-end h k) (index_same rows) ends-none
 
-pub pairs-last : {text rows : List ℕ} {n others own i : ℕ} {w : WordAt} {r : Paired} → Next text i w → w.kind ≡ 266 → r.fault ≡ 0 → PairsFrom text rows n others own i rows r
-pairs-last {rows = rows} h k z = from-marks (marks-last h k) (index_same rows) (ends-none z)
+pub pairs-last : {A : Type 0} {text rows : List ℕ} {n others own i : ℕ} {w : WordAt} {a : A} → Next text i w → w.kind ≡ 266 → PairsFrom text rows n others own i rows (Ok a)
+pairs-last {rows = rows} h k = from-marks (marks-last h k) (index_same rows) ends-none
 
-pub pairs-over : {text rows rows₁ : List ℕ} {n others own i : ℕ} {w : WordAt} {t : Taken} → n ≤ 512 → i ≤ length text → Next text i w → WordDone text rows n others own w rows₁ t → (t.fault ≡ 0 → ⊥)
-    → PairsFrom text rows n others own i rows₁ (record { fault = t.fault; at = w.start; len = w.len })
-pairs-over {text} {rows} {rows₁} {n} {others} {own} {i} {w} {t} few inside h d z = go (eqb w.kind 94) refl
+pub pairs-over : {A : Type 0} {text rows rows₁ : List ℕ} {n others own i : ℕ} {w : WordAt} {t : Result ℕ Untaken} → i ≤ length text → Next text i w → WordDone text rows n others own w rows₁ t → t ≡ Err OverLimit
+    → PairsFrom {A = A} text rows n others own i rows₁ (past-limit w)
+pairs-over {A = A} {text} {rows} {rows₁} {n} {others} {own} {i} {w} {t} inside h d z = go (eqb w.kind 94) refl
   where
-    go : (b : Bool) → eqb w.kind 94 ≡ b → PairsFrom text rows n others own i rows₁ (record { fault = t.fault; at = w.start; len = w.len })
+    go : (b : Bool) → eqb w.kind 94 ≡ b → PairsFrom {A = A} text rows n others own i rows₁ (past-limit w)
     go true e =
         let k = eqb-true w.kind 94 e in
-        from-marks (marks-use h k) d.bound.index (ends-over {us = marks (words_at text w.next)} w (d.caret k) z (h.inside inside))
-    go false e = absurd (z (d.other (λ k. never (sym e ∙ eq-eqb w.kind 94 k))).0)
+        from-marks (marks-use h k) d.bound.index (ends-over {us = marks (words_at text w.next)} w (rw z at (d.caret k)) (h.inside inside))
+    go false e = absurd (never-ok (sym (d.other (λ k. never (sym e ∙ eq-eqb w.kind 94 k))).0 ∙ z))
 
-pub pairs-step : {text rows rows₁ rows' : List ℕ} {n others own i : ℕ} {w : WordAt} {t : Taken} {r : Paired} → n ≤ 512 → Next text i w → 2 ≤ w.kind → (w.kind ≡ 266 → ⊥)
-    → WordDone text rows n others own w rows₁ t → t.fault ≡ 0 → PairsFrom text rows₁ n others t.own w.next rows' r → PairsFrom text rows n others own i rows' r
-pairs-step {text} {rows} {rows₁} {rows'} {n} {others} {own} {i} {w} {t} {r} few h k m d z f = go (eqb w.kind 94) refl
+pub pairs-unordered : {A : Type 0} {text rows rows₁ : List ℕ} {n others own i : ℕ} {w : WordAt} {t : Result ℕ Untaken} {r : Result A Refusal} → Next text i w → WordDone text rows n others own w rows₁ t → t ≡ Err NotInOrder
+    → PairsFrom text rows n others own i rows₁ r
+pairs-unordered {text = text} {rows} {rows₁} {n} {others} {own} {i} {w} {t} {r} h d z = go (eqb w.kind 94) refl
+  where
+    go : (b : Bool) → eqb w.kind 94 ≡ b → PairsFrom text rows n others own i rows₁ r
+    go true e =
+        let k = eqb-true w.kind 94 e in
+        from-marks (marks-use h k) d.bound.index (ends-unordered {us = marks (words_at text w.next)} w (rw z at (d.caret k)))
+    go false e = absurd (never-ok (sym (d.other (λ k. never (sym e ∙ eq-eqb w.kind 94 k))).0 ∙ z))
+
+pub pairs-step : {A : Type 0} {text rows rows₁ rows' : List ℕ} {n others own own₁ i : ℕ} {w : WordAt} {t : Result ℕ Untaken} {r : Result A Refusal} → n ≤ 512 → Next text i w → 2 ≤ w.kind → (w.kind ≡ 266 → ⊥)
+    → WordDone text rows n others own w rows₁ t → t ≡ Ok own₁ → PairsFrom text rows₁ n others own₁ w.next rows' r → PairsFrom text rows n others own i rows' r
+pairs-step {text = text} {rows} {rows₁} {rows'} {n} {others} {own} {own₁} {i} {w} {t} {r} few h k m d z f = go (eqb w.kind 94) refl
   where
     go : (b : Bool) → eqb w.kind 94 ≡ b → PairsFrom text rows n others own i rows' r
     go true e =
         let q = eqb-true w.kind 94 e in
-        from-marks (marks-use h q) (index-after d.bound.index f.index) (ends-use {us = marks (words_at text w.next)} w few (d.caret q) z (record { ends = f.done }))
+        from-marks (marks-use h q) (index-after d.bound.index f.index) (ends-use {us = marks (words_at text w.next)} w few (rw z at (d.caret q)) (record { ends = f.done }))
     go false e =
         let q : (w.kind ≡ 94 → ⊥) = λ y. never (sym e ∙ eq-eqb w.kind 94 y) in
         let o = d.other q in
-        from-marks (marks-other h k m q) (index-after d.bound.index f.index) (ends_same few d.bound.index o.1 o.2 (record { ends = f.done }))
+        from-marks (marks-other h k m q) (index-after d.bound.index f.index) (ends_same few d.bound.index (same-own (sym z ∙ o.0)) o.1 (record { ends = f.done }))
 
 -- The whole
 
@@ -307,7 +349,7 @@ none-held : (rows : List ℕ) → length rows ≡ 6017 → pairs_held (set rows 
 unfolding pairs_held pairs_from
 none-held rows size = ap (pairs_from (set rows 5632 0) 0) (get_or-set_same rows 5632 0 0 (omega (arith, size)))
 
-pub pairs-none : {text rows : List ℕ} {n first at : ℕ} {r : Paired} → (n < first) ⊎ (128 < n - first) → PairsDone text rows n first at (set rows 5632 0) r
+pub pairs-none : {A : Type 0} {text rows : List ℕ} {n first at : ℕ} {r : Result A Refusal} → (n < first) ⊎ (128 < n - first) → PairsDone text rows n first at (set rows 5632 0) r
 pairs-none {rows = rows} h = record {
   index = index-set rows 5632 0 (omega arith);
   done = λ p names ag en ws x e q few. λ or. absurd (go (length p.rules) q few h);
@@ -332,10 +374,10 @@ no_section text rows {n} none-there u o =
     none-there k h (ap (λ (d : Decl). d.class) (sym (held_at text rows n k h)) ∙ (row_at 600 u.section.text k ds o.section).class)
 
 -- a text without a section has no use in order, and so none at all
-pub pairs-unused : {text rows : List ℕ} {n first at : ℕ} {r : Paired} → n ≤ 512 → length rows ≡ 6017 → NoSection (set rows 5632 0) n → r.fault ≡ 0
-    → PairsDone text rows n first at (set rows 5632 0) r
+pub pairs-unused : {A : Type 0} {text rows : List ℕ} {n first at : ℕ} {a : A} → n ≤ 512 → length rows ≡ 6017 → NoSection (set rows 5632 0) n
+    → PairsDone text rows n first at (set rows 5632 0) (Ok a)
 unfolding pairs_of firsts made_for pairs_mean AllOrdered
-pairs-unused {text} {rows} {n} {first} {at} {r} few size none-there z = record { index = clear; done = done }
+pairs-unused {text = text} {rows} {n} {first} {at} {a} few size none-there = record { index = clear; done = done }
   where
     clear : IndexKept rows (set rows 5632 0)
     clear = index-set rows 5632 0 (omega arith)
@@ -349,17 +391,17 @@ pairs-unused {text} {rows} {n} {first} {at} {r} few size none-there z = record {
     done : (p : Program) (names : Names) → Agrees p names (known_rules 0 p.rules) (held text rows n) → EntriesAt text (held text rows n) (entries_of p)
         → (ws : List Word) → RulesIn (words_at text at) ws p.rules → (peek ws).kind ≡ 266 → n ≡ first + length p.rules → length p.rules ≤ 128
         → AllOrdered (held text rows n) (rules_uses p.rules)
-        → PairsEnd (held text rows n) [] (set rows 5632 0) names (length p.rules) (pairs_of p.rules) r (made_for names (known_rules 0 p.rules) first (length p.rules) (pairs_of p.rules))
+        → PairsEnd (held text rows n) [] (set rows 5632 0) names (length p.rules) (pairs_of p.rules) (Ok a) (made_for names (known_rules 0 p.rules) first (length p.rules) (pairs_of p.rules))
     done p names ag en ws x e q l or = go (rules_uses p.rules) or
       where
         go : (us : List Use) → AllOrdered (held text rows n) us
-            → PairsEnd (held text rows n) [] (set rows 5632 0) names (length p.rules) (firsts [] us) r (made_for names (known_rules 0 p.rules) first (length p.rules) (firsts [] us))
-        go [] o = paired z (none-held rows size)
+            → PairsEnd (held text rows n) [] (set rows 5632 0) names (length p.rules) (firsts [] us) (Ok a) (made_for names (known_rules 0 p.rules) first (length p.rules) (firsts [] us))
+        go [] o = paired refl (none-held rows size)
         go (u ∷ us) o = absurd (no-use u o.0)
 
-pub pairs-whole : {text rows rows' : List ℕ} {n first at : ℕ} {r : Paired} → n ≤ 512 → length rows ≡ 6017 → PairsFrom text (set rows 5632 0) n first (n - first) at rows' r → PairsDone text rows n first at rows' r
+pub pairs-whole : {A : Type 0} {text rows rows' : List ℕ} {n first at : ℕ} {r : Result A Refusal} → n ≤ 512 → length rows ≡ 6017 → PairsFrom text (set rows 5632 0) n first (n - first) at rows' r → PairsDone text rows n first at rows' r
 unfolding pairs_of
-pairs-whole {text} {rows} {rows'} {n} {first} {at} {r} few size f = record { index = index-after clear f.index; done = done }
+pairs-whole {text = text} {rows} {rows'} {n} {first} {at} {r} few size f = record { index = index-after clear f.index; done = done }
   where
     clear : IndexKept rows (set rows 5632 0)
     clear = index-set rows 5632 0 (omega arith)

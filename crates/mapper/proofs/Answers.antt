@@ -31,7 +31,7 @@ use Rattle.processor.specs.Process.{meaning, checked, answer_for}
 use Rattle.program.specs.Program.{Rule}
 use Rattle.program.specs.Table.{place, size_rules}
 use Rattle.reader.specs.Counting.{Decides}
-use Rattle.reader.specs.declared.Out.{Out}
+use Rattle.reader.specs.Answers.{Out}
 use Rattle.symbols.specs.Rows.{held}
 use Rattle.syntax.specs.Parse.{parse}
 use Rattle.syntax.specs.Reading.{got}

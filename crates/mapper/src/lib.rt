@@ -39,8 +39,7 @@ fn put_rows(text: &[u8], rows: &[u16], first: usize, places: &[usize], rules: us
     requires { Holds first rules × (rules ≤ length places.now) × (24 * rules ≤ length out.old) }
     ensures { out.new ≡ over (bytes_of (rows_words (held_rows text.now rows.now places.now first 0 rules))) out.old }
 {
-    let mut k: usize = 0;
-    while k < rules {
+    for k in 0..rules {
         let i = ROW * (first + k);
         let start = base::number(rows, i + NAME_START);
         let len = base::number(rows, i + NAME_LEN);
@@ -51,7 +50,6 @@ fn put_rows(text: &[u8], rows: &[u16], first: usize, places: &[usize], rules: us
             symbols::part_len(text, start, len),
             places[k],
         );
-        k += 1;
     }
 }
 
@@ -60,10 +58,8 @@ fn put_levels(out: &mut [u8], name: Part, places: &[usize], k: usize, end: usize
     requires { (k ≤ end) × (end ≤ 128) × (end ≤ length places.now) × (24 * end ≤ length out.old) }
     ensures { Puts out.old out.new (12 * k) (rows_words (levels_held name.start name.len places.now k (end - k))) }
 {
-    let mut i = k;
-    while i < end {
+    for i in k..end {
         put_row(out, i, name.start, name.len, places[i]);
-        i += 1;
     }
 }
 
@@ -86,11 +82,9 @@ fn put_made(text: &[u8], rows: &[u16], b: Resolved, places: &[usize], out: &mut 
     requires { Placed text.now rows.now b × (b.rules ≤ length places.now) × (24 * b.rules ≤ length out.old) }
     ensures { MadePut text.now rows.now b 0 b.written b.body places.now out.old out.new }
 {
-    let pairs = base::number(rows, PAIRS);
-    let mut j: usize = 0;
     let mut k = b.written;
     let mut at = b.body;
-    while j < pairs {
+    for j in 0..base::number(rows, PAIRS) {
         let section = base::number(rows, PAIR_SECTION + PAIR * j);
         let operand = base::number(rows, PAIR_OPERAND + PAIR * j);
         let u = levels::first_use(text, rows, b.declared, at, section, operand);
@@ -101,7 +95,6 @@ fn put_made(text: &[u8], rows: &[u16], b: Resolved, places: &[usize], out: &mut 
         put_levels(out, u.name, places, k, end);
         k = end;
         at = u.next;
-        j += 1;
     }
 }
 
@@ -167,10 +160,9 @@ fn map_read(text: &[u8], out: &mut [u8]) -> Mapped
 pub fn map_rules(text: &[u8], out: &mut [u8]) -> Mapped
     ensures { Maps (map_rules text.now (room_in out.old)) result.number result.rules out.old out.new }
 {
-    let s = reader::check_syntax(text);
-    if s.fault != 0 {
+    if let Err(e) = reader::check_syntax(text) {
         return Mapped {
-            number: s.fault,
+            number: u16::from(e.fault),
             rules: 0,
         };
     }

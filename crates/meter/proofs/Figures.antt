@@ -4,7 +4,7 @@ use mathlib.Core.Option.{none}
 use mathlib.Core.Path.{◌≡◌, refl, sym, ap, ◌∙◌}
 use native.Mathlib.Decide.{dec_lt}
 use native.Mathlib.Omega.{arith}
-use Prim.Native.Nat.{ℕ, ◌+◌, ◌≤◌, ◌<◌}
+use Prim.Native.Nat.{ℕ, ◌+◌, ◌≤◌, ◌<◌, max}
 use lib.ListN.{length, get_or, set, drop, replicate, length-set, length-replicate, drop_of_length-le, get_or-eq_default}
 use borrow.Author.Fill.{fill_none, fill_more}
 use Rattle.base.proofs.Laws.{zeros-at}
@@ -32,11 +32,14 @@ module _ {rows : List ℕ} {from i q v : ℕ} (u : GreatestUpto rows from i q) (
     | no w ↦ let f : j ≡ i = omega arith in rw f (omega arith)
   ]
 
-  pub greatest-more : {m : ℕ} → q < v → m ≡ v → GreatestUpto rows from (i + 1) m
+  greatest-more : {m : ℕ} → q < v → m ≡ v → GreatestUpto rows from (i + 1) m
   greatest-more h f = rw f (record { most = most-next (omega arith) (omega arith); attained = λ z. (i, u.beyond, b, sym e); beyond = omega (arith, u.beyond) })
 
-  pub greatest-same : {m : ℕ} → v ≤ q → m ≡ q → GreatestUpto rows from (i + 1) m
+  greatest-same : {m : ℕ} → v ≤ q → m ≡ q → GreatestUpto rows from (i + 1) m
   greatest-same h f = rw f (record { most = most-next (omega arith) h; attained = u.attained; beyond = omega (arith, u.beyond) })
+
+  pub greatest-max : {m : ℕ} → m ≡ max q v → GreatestUpto rows from (i + 1) m
+  greatest-max f = elim (dec_lt q v) [ yes h ↦ greatest-more h (omega (arith, f)) | no h ↦ greatest-same (omega arith) (omega (arith, f)) ]
 
 pub greatest-all : {rows : List ℕ} {from i q : ℕ} → GreatestUpto rows from i q → length rows ≤ i → Greatest rows from q
 greatest-all {rows} {from} {i} {q} u h = record { most = λ j l. most j l; attained = u.attained }

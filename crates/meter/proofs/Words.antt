@@ -7,9 +7,11 @@ use native.Mathlib.Decide.{dec_lt}
 use native.Mathlib.Numerals.{add-one}
 use native.Mathlib.Omega.{arith}
 use Prim.Native.Nat.{ℕ, zero, suc, ◌+◌, ◌*◌, ◌-◌, ◌≤◌, ◌<◌}
-use lib.Dec.{eqb}
-use lib.ListN.{length, get_or}
-use borrow.Author.Tests.{eqb-true, eq-eqb, ne_eqb, lt-ltb, le-ltb}
+use lib.Dec.{eqb, ltb}
+use lib.ListN.{length, get_or, get_or-eq_default}
+use borrow.Author.Tests.{eqb-true, eq-eqb, ne_eqb, lt-ltb, le-ltb, ltb-true, ltb-false}
+use Rattle.std.specs.List.Sorted.{IsNonDecreasingBy, IsPartitionedBy, IsPartitionPoint}
+use Rattle.std.proofs.lemmas.List.Sorted.{IsPartitionedBy-ltb}
 use Rattle.base.specs.Bools.{never}
 use Rattle.std.specs.Prelude.{if◌then◌else◌}
 use Rattle.base.specs.Common.{given}
@@ -27,34 +29,36 @@ pub end-last : (size r : ℕ) (S : List ℕ) → length S ≤ r + 1 → size + 1
 unfolding end_of
 end-last size r S h = rw (le-ltb (r + 1) (length S) h) refl
 
+-- inside a list it does not matter what stands for none
+with_default : (xs : List ℕ) (k d : ℕ) → k < length xs → get_or xs k d ≡ get_or xs k 0
+with_default [] k d u = absurd (omega arith)
+with_default (x ∷ xs) zero d u = refl
+with_default (x ∷ xs) (suc k) d u = with_default xs k d (omega arith)
+
+-- both, where a word is read with what stands for none
+pub end-read : (size r : ℕ) (S : List ℕ) → get_or S (r + 1) (size + 1) ≡ end_of size S r
+end-read size r S = elim (dec_lt (r + 1) (length S)) [
+  | yes h ↦ with_default S (r + 1) (size + 1) h ∙ end-next size r S h
+  | no h ↦ get_or-eq_default S (size + 1) (omega arith) ∙ end-last size r S (omega arith)
+]
+
 -- a search for the rules that start before s
-pub between-all : (S : List ℕ) (s : ℕ) → Between S s 0 (length S)
-between-all S s = record { order = omega arith; inside = omega arith; before = λ q h. absurd (omega arith); behind = λ q h z. absurd (omega arith) }
+rising-from : {S : List ℕ} → Rising S → IsNonDecreasingBy (λ (y : ℕ). y) S
+rising-from {S} u i j d h l = elim (dec_lt i j) [
+  | yes k ↦ (let r = u.rising k l in omega (arith, with_default S i d (omega arith), with_default S j d l))
+  | no k ↦ (let e : i ≡ j = omega arith in rw e (omega arith))
+]
 
-pub between-low : {S : List ℕ} {s low high m : ℕ} → Rising S → Between S s low high → low ≤ m → m < high → start_of S m < s → Between S s (m + 1) high
-between-low {S} {s} {low} {high} {m} u b l h e = record {
+pub rising-partitioned : {S : List ℕ} → Rising S → (s : ℕ) → IsPartitionedBy (λ (y : ℕ). ltb y s) S
+rising-partitioned {S} u s = IsPartitionedBy-ltb (λ (y : ℕ). y) S s (rising-from u)
+
+pub point-between : {S : List ℕ} {s i : ℕ} → i ≤ length S → IsPartitionPoint (λ (y : ℕ). ltb y s ≡ true) (λ (y : ℕ). ltb y s ≡ false) S i → Between S s i i
+point-between {S} {s} h p = record {
   order = omega arith;
-  inside = b.inside;
-  before = λ q z. elim (dec_lt q m) [
-    | yes y ↦ omega (arith, u.rising y (omega (arith, b.inside)))
-    | no y ↦ let w : q ≡ m = omega arith in rw w e
-  ];
-  behind = b.behind;
+  inside = h;
+  before = λ q l. ltb-true (get_or S q 0) s (p.0 q 0 (omega arith) l);
+  behind = λ q k l. ltb-false (get_or S q 0) s (p.1 q 0 k l);
 }
-
-pub between-high : {S : List ℕ} {s low high m : ℕ} → Rising S → Between S s low high → low ≤ m → m < high → s ≤ start_of S m → Between S s low m
-between-high {S} {s} {low} {high} {m} u b l h e = record {
-  order = l;
-  inside = omega (arith, b.inside);
-  before = b.before;
-  behind = λ q y z. elim (dec_lt m q) [
-    | yes x ↦ omega (arith, u.rising x z)
-    | no x ↦ let w : q ≡ m = omega arith in rw w e
-  ];
-}
-
-pub between-met : {S : List ℕ} {s low high : ℕ} → Between S s low high → high ≤ low → Between S s low low
-between-met {S} {s} {low} {high} b h = let e : high ≡ low = omega (arith, b.order) in rw e at b
 
 -- the first that starts at s
 index-first : (S : List ℕ) (s r : ℕ) → r < length S → ((q : ℕ) → q < r → start_of S q < s) → start_of S r ≡ s → r ≡ index_of S s

@@ -13,9 +13,6 @@ ghost use Rattle.meter.specs.Found.{Found};
 ghost use Rattle.meter.specs.Store.{at_cap, numbers_of, called_numbers};
 ghost use Rattle.figure.specs.Figure.{way_out};
 
-use base::wide;
-use loader::back;
-
 // Places in a half: the locations, then the paths of each rule that are over and those that are back.
 const OVER: usize = 4097;
 
@@ -33,28 +30,12 @@ const LAST_WORD: usize = HALF - WORD_BITS;
 
 pub const ROWS: usize = 4490;
 
-// The instructions that end paths or branch.
-const JUMP_FORWARD: usize = machine::JUMP_FORWARD as usize;
-
-const JUMP_BACK: usize = machine::JUMP_BACK as usize;
-
-const INPUT: usize = machine::INPUT as usize;
-
-const INPUT_CHOICE: usize = machine::INPUT_CHOICE as usize;
-
+// Instructions as the words of a table are.
 const CALL: usize = machine::CALL as usize;
 
 const SET_RESULT: usize = machine::SET_RESULT as usize;
 
 const CHOICE: usize = machine::CHOICE as usize;
-
-const INPUT_ANY: usize = machine::INPUT_ANY as usize;
-
-const RETURN: usize = machine::RETURN as usize;
-
-const END_CHOICE: usize = machine::END_CHOICE as usize;
-
-const FIRST_CHOOSE: usize = machine::ASK as usize;
 
 // Whether the number at an index is CAP.
 fn at_cap(rows: &[u32], i: usize) -> bool
@@ -75,7 +56,7 @@ fn number(rows: &[u32], i: usize) -> u64
     if at_cap(rows, i) {
         return CAP;
     }
-    rows[i] as u64
+    u64::from(rows[i])
 }
 
 // A number becomes v, which is more: no bit is ever cleared.
@@ -88,19 +69,13 @@ fn put(rows: &mut [u32], i: usize, v: u64)
         return;
     }
     let at = HALF + i / WORD_BITS;
-    rows[at] = rows[at] | (1 << (i % WORD_BITS));
+    rows[at] |= 1 << (i % WORD_BITS);
 }
 
 fn capped(v: u64) -> u64
     ensures { result ≡ min v 4294967296 }
 {
-    if v < CAP { v } else { CAP }
-}
-
-fn either(a: bool, b: bool) -> bool
-    ensures { result ≡ (a || b) }
-{
-    if a { true } else { b }
+    v.min(CAP)
 }
 
 // Whether v would raise a number; locations past the last have none.
@@ -149,17 +124,7 @@ fn starts_before(starts: &[usize], s: usize) -> usize
     requires { Rising starts.now }
     ensures { Between starts.now s result result }
 {
-    let mut low: usize = 0;
-    let mut high = starts.len();
-    while low < high {
-        let mid = low + (high - low) / 2;
-        if starts[mid] < s {
-            low = mid + 1;
-        } else {
-            high = mid;
-        }
-    }
-    low
+    starts.partition_point(|start| *start < s)
 }
 
 // Which rule starts at a location; their number where none does.
@@ -179,11 +144,7 @@ fn end_of(starts: &[usize], r: usize, size: usize) -> usize
     requires { (r < 1000) × (size < 10000) }
     ensures { result ≡ end_of size starts.now r }
 {
-    if r + 1 < starts.len() {
-        starts[r + 1]
-    } else {
-        size + 1
-    }
+    starts.get(r + 1).copied().unwrap_or(size + 1)
 }
 
 // Where the choice with its table at c goes by a value.
@@ -192,13 +153,11 @@ fn way_out(table: &[u8], c: usize, v: usize) -> usize
     ensures { result ≡ way_out (table_of table.now) c (some v) }
 {
     let n = loader::word_at(table, c);
-    let mut i: usize = 0;
-    while i < n {
+    for i in 0..n {
         let l = c + 1 + 2 * i;
         if loader::word_at(table, l) == v {
-            return back(l + 1, loader::word_at(table, l + 1));
+            return (l + 1).saturating_sub(loader::word_at(table, l + 1));
         }
-        i += 1;
     }
     c + 1 + 2 * n
 }
@@ -210,7 +169,7 @@ fn raise_two(rows: &mut [u32], i: usize, v: u64, j: usize, w: u64) -> bool
 {
     let a = raise(rows, i, v);
     let b = raise(rows, j, w);
-    either(a, b)
+    a | b
 }
 
 // The way by label i of the choice with its table at c. What stands beside the label is its way, or else a label before it is the same: so nothing is sought
@@ -220,7 +179,7 @@ fn raise_label(table: &[u8], c: usize, i: usize, v: u64, rows: &mut [u32]) -> bo
     ensures { LabelRaised (table_of table.now) c i v (numbers_of rows.old) (numbers_of rows.new) result }
 {
     let l = c + 1 + 2 * i;
-    let beside = back(l + 1, loader::word_at(table, l + 1));
+    let beside = (l + 1).saturating_sub(loader::word_at(table, l + 1));
     if is_below(rows, beside, v) {
         let way = way_out(table, c, loader::word_at(table, l));
         return raise(rows, way, v);
@@ -238,18 +197,16 @@ fn raise_ways(table: &[u8], c: usize, v: u64, rows: &mut [u32]) -> bool
     }
     let n = loader::word_at(table, c);
     let mut changed = false;
-    let mut i: usize = 0;
-    while i < n {
+    for i in 0..n {
         let more = raise_label(table, c, i, v, rows);
-        changed = either(changed, more);
-        i += 1;
+        changed |= more;
     }
     let last = raise(rows, c + 1 + 2 * n, v);
-    either(changed, last)
+    changed | last
 }
 
 // A place in a rule: the rule, the location and its number.
-#[derive(Clone, Copy)]
+#[derive(Clone, Copy, Debug, PartialEq, Eq)]
 struct Spot {
     rule: usize,
     at: usize,
@@ -257,25 +214,19 @@ struct Spot {
 }
 
 // An instruction of one word.
-fn visit_one(i: usize, called: &[u32], here: Spot, rows: &mut [u32]) -> bool
+fn visit_one(i: u16, called: &[u32], here: Spot, rows: &mut [u32]) -> bool
     requires { (length rows.old ≡ 4490) × (here.rule < 128) × (here.at < 10000) × (here.number ≤ 4294967296) }
     ensures { Visited (decode_one i) (called_numbers called.now) here.rule here.at here.number (numbers_of rows.old) (numbers_of rows.new) result }
 {
     let next = here.at + 1;
     let over = OVER + here.rule;
-    if i == RETURN {
-        return raise(rows, BACK + here.rule, here.number);
+    match i {
+        machine::RETURN => raise(rows, BACK + here.rule, here.number),
+        machine::END_CHOICE => raise(rows, over, here.number),
+        machine::INPUT_ANY => raise_two(rows, over, here.number, next, mark_of(called)),
+        _ if i < machine::ASK => raise(rows, next, here.number + 1),
+        _ => raise_two(rows, over, here.number, next, here.number + 1),
     }
-    if i == END_CHOICE {
-        return raise(rows, over, here.number);
-    }
-    if i == INPUT_ANY {
-        return raise_two(rows, over, here.number, next, mark_of(called));
-    }
-    if i < FIRST_CHOOSE {
-        return raise(rows, next, here.number + 1);
-    }
-    raise_two(rows, over, here.number, next, here.number + 1)
 }
 
 // A choice by the present token, with its table at c.
@@ -292,7 +243,7 @@ fn visit_token(table: &[u8], c: usize, called: &[u32], here: Spot, rows: &mut [u
         default,
         here.number + 1,
     );
-    either(a, b)
+    a | b
 }
 
 // Behind a call and through the choice with its table at c, by the value that is set at p.
@@ -331,10 +282,9 @@ fn is_clear(rows: &[u32], i: usize) -> bool
         return false;
     }
     let mut clear = rows[HALF + i / WORD_BITS] == 0;
-    let mut j: usize = 0;
-    while j < WORD_BITS {
-        clear = clear & (rows[i + j] == 0);
-        j += 1;
+    // no early way out: so many are compared at once
+    for j in 0..WORD_BITS {
+        clear &= rows[i + j] == 0;
     }
     clear
 }
@@ -365,6 +315,7 @@ fn next_numbered(rows: &[u32], i: usize, to: usize) -> usize
     ensures { (i ≤ result) × (result ≤ to) × ZeroIn (numbers_of rows.now) i result }
 {
     let mut at = i;
+    // no range: a step is as long as its zeros
     while at < to {
         let next = past_zeros(rows, at, to);
         if next == at {
@@ -417,9 +368,10 @@ fn raise_values(
     let to = end_of(starts, q, loader::size_of(table));
     let mut changed = false;
     let mut p = starts[q];
+    // no range: places with no number are passed over
     while p < to {
         let more = raise_value(table, starts, p, c, called, here, rows);
-        changed = either(changed, more);
+        changed |= more;
         p = next_called(called, rows, p + 1, to);
     }
     changed
@@ -465,14 +417,14 @@ fn raise_call(
     let o = here.number + called_number(called, rows, OVER + q);
     let a = raise_two(rows, OVER + here.rule, o, here.at + 2, mark_of(called));
     let b = raise_behind(table, starts, q, called, here, rows);
-    either(a, b)
+    a | b
 }
 
 // An instruction of two words.
 fn visit_two(
     table: &[u8],
     starts: &[usize],
-    i: usize,
+    i: u16,
     x: usize,
     called: &[u32],
     here: Spot,
@@ -483,25 +435,15 @@ fn visit_two(
 {
     let l = here.at;
     let more = here.number + 1;
-    if i == JUMP_FORWARD {
-        return raise(rows, l + 1 + x, more);
+    match i {
+        machine::JUMP_FORWARD => raise(rows, l + 1 + x, more),
+        machine::JUMP_BACK => raise(rows, (l + 1).saturating_sub(x), more),
+        machine::INPUT => raise_two(rows, OVER + here.rule, here.number, l + 2, mark_of(called)),
+        machine::INPUT_CHOICE => visit_token(table, l + 1 + x, called, here, rows),
+        machine::CALL => raise_call(table, starts, x, called, here, rows),
+        machine::CHOICE => raise_ways(table, l + 1 + x, more, rows),
+        _ => raise(rows, l + 2, more),
     }
-    if i == JUMP_BACK {
-        return raise(rows, back(l + 1, x), more);
-    }
-    if i == INPUT {
-        return raise_two(rows, OVER + here.rule, here.number, l + 2, mark_of(called));
-    }
-    if i == INPUT_CHOICE {
-        return visit_token(table, l + 1 + x, called, here, rows);
-    }
-    if i == CALL {
-        return raise_call(table, starts, x, called, here, rows);
-    }
-    if i == CHOICE {
-        return raise_ways(table, l + 1 + x, more, rows);
-    }
-    raise(rows, l + 2, more)
 }
 
 // What the instruction at a location of a rule asks for.
@@ -534,14 +476,13 @@ fn visit(
         return false;
     }
     if k == 1 {
-        return visit_one(wide(i), called, here, rows);
+        return visit_one(i, called, here, rows);
     }
     if size < at + 1 {
         return false;
     }
-    let w = wide(i);
     let x = loader::word_at(table, at + 1);
-    visit_two(table, starts, w, x, called, here, rows)
+    visit_two(table, starts, i, x, called, here, rows)
 }
 
 // What the instructions of a rule ask for.
@@ -551,11 +492,9 @@ fn sweep_rule(table: &[u8], starts: &[usize], r: usize, called: &[u32], rows: &m
 {
     let to = end_of(starts, r, loader::size_of(table));
     let mut changed = false;
-    let mut l = starts[r];
-    while l < to {
+    for l in starts[r]..to {
         let more = visit(table, starts, r, l, called, rows);
-        changed = either(changed, more);
-        l += 1;
+        changed |= more;
     }
     changed
 }
@@ -566,11 +505,9 @@ fn sweep_down(table: &[u8], starts: &[usize], called: &[u32], rows: &mut [u32]) 
     ensures { Steps (table_of table.now) starts.now (AskedFrom (table_of table.now) starts.now (called_numbers called.now) 0) (called_numbers called.now) (numbers_of rows.old) (numbers_of rows.new) result }
 {
     let mut changed = false;
-    let mut r = starts.len();
-    while 0 < r {
-        r -= 1;
+    for r in (0..starts.len()).rev() {
         let more = sweep_rule(table, starts, r, called, rows);
-        changed = either(changed, more);
+        changed |= more;
     }
     changed
 }
@@ -581,11 +518,9 @@ fn sweep_up(table: &[u8], starts: &[usize], called: &[u32], rows: &mut [u32]) ->
     ensures { Steps (table_of table.now) starts.now (AskedFrom (table_of table.now) starts.now (called_numbers called.now) 0) (called_numbers called.now) (numbers_of rows.old) (numbers_of rows.new) result }
 {
     let mut changed = false;
-    let mut r: usize = 0;
-    while r < starts.len() {
+    for r in 0..starts.len() {
         let more = sweep_rule(table, starts, r, called, rows);
-        changed = either(changed, more);
-        r += 1;
+        changed |= more;
     }
     changed
 }
@@ -596,26 +531,30 @@ fn sweep(table: &[u8], starts: &[usize], called: &[u32], up: bool, rows: &mut [u
     ensures { Steps (table_of table.now) starts.now (AskedFrom (table_of table.now) starts.now (called_numbers called.now) 0) (called_numbers called.now) (numbers_of rows.old) (numbers_of rows.new) result }
 {
     if up {
-        return sweep_up(table, starts, called, rows);
+        sweep_up(table, starts, called, rows)
+    } else {
+        sweep_down(table, starts, called, rows)
     }
-    sweep_down(table, starts, called, rows)
 }
 
 // A set of rules, a bit for each.
-#[derive(Clone, Copy)]
+#[derive(Clone, Copy, Debug, PartialEq, Eq)]
 struct Due {
     lo: u64,
     hi: u64,
 }
 
+const NONE_DUE: Due = Due { lo: 0, hi: 0 };
+
+// Rounds end long before there are so many.
+const MOST_ROUNDS: usize = 10000;
+
 fn is_due(d: Due, r: usize) -> bool {
-    if r < 64 {
-        return (d.lo >> r) & 1 == 1;
+    match r {
+        0..=63 => (d.lo >> r) & 1 == 1,
+        64..=127 => (d.hi >> (r - 64)) & 1 == 1,
+        _ => false,
     }
-    if r < 128 {
-        return (d.hi >> (r - 64)) & 1 == 1;
-    }
-    false
 }
 
 // The set, with r where it is to be.
@@ -626,20 +565,20 @@ fn with_due(d: Due, r: usize, on: bool) -> Due {
     if r < 64 {
         return Due {
             lo: d.lo | (1 << r),
-            hi: d.hi,
+            ..d
         };
     }
     if r < 128 {
         return Due {
-            lo: d.lo,
             hi: d.hi | (1 << (r - 64)),
+            ..d
         };
     }
     d
 }
 
 // The rules that rounds have raised: in the round before, and in this one so far.
-#[derive(Clone, Copy)]
+#[derive(Clone, Copy, Debug, PartialEq, Eq)]
 struct Raisings {
     before: Due,
     now: Due,
@@ -647,13 +586,7 @@ struct Raisings {
 
 // Rule q was raised since rule r was swept: rules are swept from the last on.
 fn is_changed(s: Raisings, q: usize, r: usize) -> bool {
-    if is_due(s.now, q) {
-        return true;
-    }
-    if r < q {
-        return false;
-    }
-    is_due(s.before, q)
+    is_due(s.now, q) || q <= r && is_due(s.before, q)
 }
 
 // The word at a location is that of a call, and the rule that is called was raised since rule r was swept.
@@ -671,14 +604,7 @@ fn calls_changed(table: &[u8], starts: &[usize], s: Raisings, r: usize, l: usize
 fn place(starts: &[usize], i: usize) -> usize
     ensures { 1 ≤ result }
 {
-    if starts.len() <= i {
-        return 1;
-    }
-    let s = starts[i];
-    if s == 0 {
-        return 1;
-    }
-    s
+    starts.get(i).copied().unwrap_or(1).max(1)
 }
 
 // Where a rule starts, the table's size at most.
@@ -686,27 +612,17 @@ fn upper(table: &[u8], starts: &[usize], i: usize) -> usize
     ensures { result ≤ length (table_of table.now) }
 {
     let n = loader::size_of(table);
-    if starts.len() <= i {
-        return n;
-    }
-    let s = starts[i];
-    if n < s {
-        return n;
-    }
-    s
+    starts.get(i).copied().unwrap_or(n).min(n)
 }
 
 // Rule r calls one that was raised since it was swept.
 fn has_changed_call(table: &[u8], starts: &[usize], s: Raisings, r: usize) -> bool
     requires { Rising starts.now × (r < 1000) × (length (table_of table.now) ≤ 4096) }
 {
-    let to = upper(table, starts, r + 1);
-    let mut l = place(starts, r);
-    while l < to {
+    for l in place(starts, r)..upper(table, starts, r + 1) {
         if calls_changed(table, starts, s, r, l) {
             return true;
         }
-        l += 1;
     }
     false
 }
@@ -716,13 +632,7 @@ fn has_changed_call(table: &[u8], starts: &[usize], s: Raisings, r: usize) -> bo
 fn is_pending(table: &[u8], starts: &[usize], s: Raisings, r: usize, first: bool) -> bool
     requires { Rising starts.now × (r < 1000) × (length (table_of table.now) ≤ 4096) }
 {
-    if is_due(s.before, r) {
-        return true;
-    }
-    if first {
-        return has_changed_call(table, starts, s, r);
-    }
-    false
+    is_due(s.before, r) || first && has_changed_call(table, starts, s, r)
 }
 
 // A rule is swept, where that is due.
@@ -737,14 +647,11 @@ fn sweep_if(
     requires { Kept (table_of table.now) starts.now (called_numbers called.now) (numbers_of rows.old) × (r < length starts.now) × (length rows.old ≡ 4490) }
     ensures { Steps (table_of table.now) starts.now (AskedFrom (table_of table.now) starts.now (called_numbers called.now) (length starts.now)) (called_numbers called.now) (numbers_of rows.old) (numbers_of rows.new) result }
 {
-    if on {
-        return sweep_rule(table, starts, r, called, rows);
-    }
-    false
+    on && sweep_rule(table, starts, r, called, rows)
 }
 
 // What a round over the rules brought: whether a number was raised, and in which rules.
-#[derive(Clone, Copy)]
+#[derive(Clone, Copy, Debug, PartialEq, Eq)]
 struct Brought {
     changed: bool,
     raised: Due,
@@ -757,34 +664,21 @@ fn round(table: &[u8], starts: &[usize], called: &[u32], raised: Due, rows: &mut
 {
     let first = called.len() != ROWS;
     let mut changed = false;
-    let mut now = Due { lo: 0, hi: 0 };
-    let mut r = starts.len();
-    while 0 < r {
-        r -= 1;
+    let mut now = NONE_DUE;
+    for r in (0..starts.len()).rev() {
         let s = Raisings {
             before: raised,
             now,
         };
         let on = is_pending(table, starts, s, r, first);
         let more = sweep_if(table, starts, r, called, rows, on);
-        changed = either(changed, more);
+        changed |= more;
         now = with_due(now, r, more);
     }
     Brought {
         changed,
         raised: now,
     }
-}
-
-// One less; 0 where nothing is due.
-fn less(left: usize, due: Due) -> usize
-    requires { 0 < left }
-    ensures { result < left }
-{
-    if (due.lo == 0) & (due.hi == 0) {
-        return 0;
-    }
-    left - 1
 }
 
 // Rounds until nothing is due, or many of them.
@@ -794,15 +688,16 @@ fn rounds(table: &[u8], starts: &[usize], called: &[u32], rows: &mut [u32]) -> b
 {
     let mut changed = false;
     let mut due = Due {
-        lo: 18446744073709551615,
-        hi: 18446744073709551615,
+        lo: u64::MAX,
+        hi: u64::MAX,
     };
-    let mut left: usize = 10000;
-    while 0 < left {
+    for _ in 0..MOST_ROUNDS {
         let t = round(table, starts, called, due, rows);
-        changed = either(changed, t.changed);
+        changed |= t.changed;
         due = t.raised;
-        left = less(left, due);
+        if due == NONE_DUE {
+            break;
+        }
     }
     changed
 }
@@ -812,17 +707,7 @@ fn rounds_if(table: &[u8], starts: &[usize], called: &[u32], late: bool, rows: &
     requires { Kept (table_of table.now) starts.now (called_numbers called.now) (numbers_of rows.old) × (length rows.old ≡ 4490) }
     ensures { Steps (table_of table.now) starts.now (AskedFrom (table_of table.now) starts.now (called_numbers called.now) (length starts.now)) (called_numbers called.now) (numbers_of rows.old) (numbers_of rows.new) result }
 {
-    if late {
-        return rounds(table, starts, called, rows);
-    }
-    false
-}
-
-fn before(n: usize) -> usize {
-    if n == 0 {
-        return 0;
-    }
-    n - 1
+    late && rounds(table, starts, called, rows)
 }
 
 // Sweeps down and up in turn, late ones behind rounds, until one raises nothing.
@@ -832,12 +717,13 @@ fn settle(table: &[u8], starts: &[usize], called: &[u32], rows: &mut [u32])
 {
     let mut changed = true;
     let mut up = false;
-    let mut early: usize = 5;
+    let mut early = 5usize;
+    // no range: until a sweep raises nothing
     while changed {
         rounds_if(table, starts, called, early == 0, rows);
         changed = sweep(table, starts, called, up, rows);
         up = !up;
-        early = before(early);
+        early = early.saturating_sub(1);
     }
 }
 
@@ -846,10 +732,8 @@ fn begin(table: &[u8], starts: &[usize], called: &[u32], rows: &mut [u32])
     requires { Kept (table_of table.now) starts.now (called_numbers called.now) (numbers_of rows.old) × (length rows.old ≡ 4490) }
     ensures { Begun (table_of table.now) starts.now (called_numbers called.now) (numbers_of rows.new) }
 {
-    let mut r: usize = 0;
-    while r < starts.len() {
-        raise(rows, starts[r], 1);
-        r += 1;
+    for start in starts {
+        raise(rows, *start, 1);
     }
 }
 
@@ -858,28 +742,11 @@ fn greatest(rows: &[u32], from: usize) -> u64
     requires { length rows.now ≡ 4490 }
     ensures { Greatest (numbers_of rows.now) from result }
 {
-    let mut most: u64 = 0;
-    let mut i = from;
-    while i < HALF {
-        let v = number(rows, i);
-        if most < v {
-            most = v;
-        }
-        i += 1;
+    let mut most = 0;
+    for i in from..HALF {
+        most = most.max(number(rows, i));
     }
     most
-}
-
-// All numbers are 0.
-fn clear(rows: &mut [u32])
-    requires { length rows.old ≡ 4490 }
-    ensures { numbers_of rows.new ≡ replicate 4353 0 }
-{
-    let mut i: usize = 0;
-    while i < ROWS {
-        rows[i] = 0;
-        i += 1;
-    }
 }
 
 // The figure of a table whose rules start at these locations; 4,294,967,296 where it is more than 4,294,967,295. The two halves of the numbers are lent.
@@ -887,8 +754,8 @@ pub fn figure(table: &[u8], starts: &[usize], called: &mut [u32], rows: &mut [u3
     requires { Shaped (table_of table.now) starts.now × (length called.old ≡ 4490) × (length rows.old ≡ 4490) }
     ensures { Found (table_of table.now) starts.now result }
 {
-    clear(called);
-    clear(rows);
+    called.fill(0);
+    rows.fill(0);
     begin(table, starts, &rows[..0], called);
     settle(table, starts, &rows[..0], called);
     begin(table, starts, called, rows);

@@ -6,8 +6,9 @@ use native.Mathlib.Omega.{arith}
 use Prim.Native.Nat.{ℕ, suc, ◌≤◌}
 use lib.ListN.{length, drop}
 use Rattle.base.specs.Common.{same}
+use Rattle.std.specs.Prelude.{Some, None}
 use Rattle.names.specs.Understand.{is_one}
-use Rattle.objects.proofs.Looked.{ends-took, name-at}
+use Rattle.objects.proofs.Looked.{ends-took, not-none, name-at}
 use Rattle.objects.proofs.TakeLaws.{times-exact}
 use Rattle.objects.proofs.Views.{name-exact}
 use Rattle.objects.specs.Places.{Ends, NameAt}
@@ -28,7 +29,8 @@ module _ (words : List ℕ) (ns : List Name) (rest : List ℕ) (sought : Name) w
     pub later : List Name
     pub here : NameAt words q first
     pub alike : is_one sought.text (texts_of ns) ≡ (same sought.text first.text || is_one sought.text (texts_of later))
-    pub behind : (r : ℕ) → Ends a_name words q r → (r ≤ length words) × (times m a_name (drop r words) ≡ took later rest)
+    pub there : Ends a_name words q None → ⊥
+    pub behind : (r : ℕ) → Ends a_name words q (Some r) → (r ≤ length words) × (times m a_name (drop r words) ≡ took later rest)
 
   pub seeking : (m n q at : ℕ) → m ≡ n → q ≡ at → times n a_name (drop at words) ≡ took ns rest → Seeking m q
   seeking m n q at d f e = record { left = ns; taken = rw (d, f) e; alike = refl }
@@ -57,6 +59,7 @@ module _ (words : List ℕ) (ns : List Name) (rest : List ℕ) (sought : Name) w
             later = ms;
             here = name-at words q n more here;
             alike = a;
+            there = not-none n more (ap a_name here ∙ name-exact.back n tt more);
             behind = λ r y.
                 let z = ends-took n more (ap a_name here ∙ name-exact.back n tt more) y in
                 (z.1, ap (times m a_name) (sym z.0) ∙ (times-exact name-exact m).back ms (omega (arith, l)) rest);
@@ -68,5 +71,5 @@ module _ (words : List ℕ) (ns : List Name) (rest : List ℕ) (sought : Name) w
   pub found_first : {m q : ℕ} (x : Leads m q) (b : Bool) → b ≡ same sought.text x.first.text → b ≡ true → b ≡ is_one sought.text (texts_of ns)
   found_first x b e t = rw (x.alike, ← e, t)
 
-  pub not_first : {m q : ℕ} (x : Leads m q) (b : Bool) → b ≡ same sought.text x.first.text → b ≡ false → (r : ℕ) → Ends a_name words q r → Seeking m r
+  pub not_first : {m q : ℕ} (x : Leads m q) (b : Bool) → b ≡ same sought.text x.first.text → b ≡ false → (r : ℕ) → Ends a_name words q (Some r) → Seeking m r
   not_first x b e f r y = record { left = x.later; taken = (x.behind r y).1; alike = rw (x.alike, ← e, f) }

@@ -8,7 +8,8 @@ use lib.ListN.{length, get_or, drop, length-drop}
 use lib.Seq.{get_or-drop, drop-drop}
 use Rattle.base.specs.Common.{same}
 use Rattle.names.specs.Understand.{is_one}
-use Rattle.objects.proofs.Looked.{ends-took}
+use Rattle.std.specs.Prelude.{Some, None}
+use Rattle.objects.proofs.Looked.{ends-took, not-none}
 use Rattle.objects.proofs.Marks.{or_right}
 use Rattle.objects.proofs.TakeLaws.{times-exact}
 use Rattle.objects.proofs.Views.{name-exact, option-exact, rule-exact}
@@ -20,13 +21,14 @@ use Rattle.objects.specs.Whole.{calls_of, texts_of}
 -- where the names of a rule's calls stand
 pub record CallsAt (words : List ℕ) (v : RuleView) (gives : ℕ) : Type 0 where
   pub inside : gives ≤ length words
-  pub count : (calls : ℕ) → Ends an_option words gives calls → (calls < length words) × (get_or words calls 0 ≡ length v.calls)
+  pub there : Ends an_option words gives None → ⊥
+  pub count : (calls : ℕ) → Ends an_option words gives (Some calls) → (calls < length words) × (get_or words calls 0 ≡ length v.calls)
   pub rest : List ℕ
-  pub taken : (calls : ℕ) → Ends an_option words gives calls → times (length v.calls) a_name (drop (calls + 1) words) ≡ took v.calls rest
+  pub taken : (calls : ℕ) → Ends an_option words gives (Some calls) → times (length v.calls) a_name (drop (calls + 1) words) ≡ took v.calls rest
 
-pub calls_at : (words : List ℕ) (q gives : ℕ) (v : RuleView) (k : List ℕ) → drop q words ≡ rule_words v ++ k → Ends a_name words q gives → CallsAt words v gives
+pub calls_at : (words : List ℕ) (q gives : ℕ) (v : RuleView) (k : List ℕ) → drop q words ≡ rule_words v ++ k → Ends a_name words q (Some gives) → CallsAt words v gives
 unfolding rule_words
-calls_at words q gives v k e x = record { inside = a.1; count = count; rest = cells; taken = taken }
+calls_at words q gives v k e x = record { inside = a.1; there = not-none v.gives calls₁ option-there; count = count; rest = cells; taken = taken }
   where
     cells : List ℕ
     cells = (length v.cells ∷ v.cells) ++ k
@@ -41,10 +43,13 @@ calls_at words q gives v k e x = record { inside = a.1; count = count; rest = ce
     a : (option_words v.gives ++ calls₁ ≡ drop gives words) × (gives ≤ length words)
     a = ends-took v.name (option_words v.gives ++ calls₁) (ap a_name (e ∙ parts) ∙ name-exact.back v.name tt (option_words v.gives ++ calls₁)) x
 
-    b : (calls : ℕ) → Ends an_option words gives calls → (calls₁ ≡ drop calls words) × (calls ≤ length words)
-    b calls y = ends-took v.gives calls₁ (ap an_option (sym a.0) ∙ option-exact.back v.gives tt calls₁) y
+    option-there : an_option (drop gives words) ≡ took v.gives calls₁
+    option-there = ap an_option (sym a.0) ∙ option-exact.back v.gives tt calls₁
 
-    count : (calls : ℕ) → Ends an_option words gives calls → (calls < length words) × (get_or words calls 0 ≡ length v.calls)
+    b : (calls : ℕ) → Ends an_option words gives (Some calls) → (calls₁ ≡ drop calls words) × (calls ≤ length words)
+    b calls y = ends-took v.gives calls₁ option-there y
+
+    count : (calls : ℕ) → Ends an_option words gives (Some calls) → (calls < length words) × (get_or words calls 0 ≡ length v.calls)
     count calls y =
         let z = b calls y in
         let l = ap length z.0 in
@@ -52,7 +57,7 @@ calls_at words q gives v k e x = record { inside = a.1; count = count; rest = ce
         let n : calls + 0 ≡ calls = omega arith in
         (omega (arith, l, d), ap (λ (i : ℕ). get_or words i 0) (sym n) ∙ sym (get_or-drop calls words 0 0) ∙ ap (λ (ws : List ℕ). get_or ws 0 0) (sym z.0))
 
-    taken : (calls : ℕ) → Ends an_option words gives calls → times (length v.calls) a_name (drop (calls + 1) words) ≡ took v.calls cells
+    taken : (calls : ℕ) → Ends an_option words gives (Some calls) → times (length v.calls) a_name (drop (calls + 1) words) ≡ took v.calls cells
     taken calls y =
         let z = b calls y in
         ap (times (length v.calls) a_name) (sym (drop-drop 1 calls words) ∙ ap (λ (ws : List ℕ). drop 1 ws) (sym z.0)) ∙ (times-exact name-exact (length v.calls)).back v.calls refl cells
@@ -61,6 +66,13 @@ one-append : (t : List ℕ) (ns ms : List Name) → is_one t (texts_of (ns ++ ms
 unfolding is_one texts_of
 one-append t [] ms = refl
 one-append t (n ∷ ns) ms = rw (one-append t ns ms) (or_right (same t n.text) (is_one t (texts_of ns)) (is_one t (texts_of ms)))
+
+-- the rule's name is there
+pub gives-there : (words : List ℕ) (q : ℕ) (v : RuleView) (k : List ℕ) → drop q words ≡ rule_words v ++ k → Ends a_name words q None → ⊥
+unfolding rule_words
+gives-there words q v k e x =
+    let more = (option_words v.gives ++ (length v.calls ∷ (all name_words v.calls ++ (length v.cells ∷ v.cells)))) ++ k in
+    not-none v.name more (ap a_name (e ∙ append_assoc (name_words v.name) _ k) ∙ name-exact.back v.name tt more) x
 
 module _ (words : List ℕ) (vs : List RuleView) (rest : List ℕ) (sought : Name) where
   -- m names are left, from the place q on
@@ -76,7 +88,8 @@ module _ (words : List ℕ) (vs : List RuleView) (rest : List ℕ) (sought : Nam
     pub tail : List ℕ
     pub here : drop q words ≡ rule_words first ++ tail
     pub alike : is_one sought.text (texts_of (calls_of vs)) ≡ (is_one sought.text (texts_of first.calls) || is_one sought.text (texts_of (calls_of later)))
-    pub behind : (r : ℕ) → Ends a_rule words q r → (r ≤ length words) × (times m a_rule (drop r words) ≡ took later rest)
+    pub there : Ends a_rule words q None → ⊥
+    pub behind : (r : ℕ) → Ends a_rule words q (Some r) → (r ≤ length words) × (times m a_rule (drop r words) ≡ took later rest)
 
   pub seeking-rules : (m n q at : ℕ) → m ≡ n → q ≡ at → times n a_rule (drop at words) ≡ took vs rest → SeekingRules m q
   seeking-rules m n q at d f e = record { left = vs; taken = rw (d, f) e; alike = refl }
@@ -106,6 +119,7 @@ module _ (words : List ℕ) (vs : List RuleView) (rest : List ℕ) (sought : Nam
             tail = more;
             here = here;
             alike = a ∙ one-append sought.text n.calls (calls_of ms);
+            there = not-none n more (ap a_rule here ∙ rule-exact.back n tt more);
             behind = λ r y.
                 let z = ends-took n more (ap a_rule here ∙ rule-exact.back n tt more) y in
                 (z.1, ap (times m a_rule) (sym z.0) ∙ (times-exact rule-exact m).back ms (omega (arith, l)) rest);
@@ -117,5 +131,5 @@ module _ (words : List ℕ) (vs : List RuleView) (rest : List ℕ) (sought : Nam
   pub found-rule : {m q : ℕ} (x : LeadsRules m q) (b : Bool) → b ≡ is_one sought.text (texts_of x.first.calls) → b ≡ true → b ≡ is_one sought.text (texts_of (calls_of vs))
   found-rule x b e t = rw (x.alike, ← e, t)
 
-  pub not-rule : {m q : ℕ} (x : LeadsRules m q) (b : Bool) → b ≡ is_one sought.text (texts_of x.first.calls) → b ≡ false → (r : ℕ) → Ends a_rule words q r → SeekingRules m r
+  pub not-rule : {m q : ℕ} (x : LeadsRules m q) (b : Bool) → b ≡ is_one sought.text (texts_of x.first.calls) → b ≡ false → (r : ℕ) → Ends a_rule words q (Some r) → SeekingRules m r
   not-rule x b e f r y = record { left = x.later; taken = (x.behind r y).1; alike = rw (x.alike, ← e, f) }

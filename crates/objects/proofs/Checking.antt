@@ -6,6 +6,8 @@ use mathlib.Core.Path.{◌≡◌, refl, sym, ap, ◌∙◌}
 use native.Mathlib.Omega.{arith}
 use Prim.Native.Nat.{ℕ, zero, suc, ◌+◌, ◌<◌, ◌≤◌}
 use lib.ListN.{length, drop, length-append, length-drop, drop_of_length-le}
+use Rattle.base.specs.Bools as bools
+use Rattle.std.specs.Prelude as code
 use Rattle.std.specs.Prelude.{if◌then◌else◌}
 use Rattle.names.specs.Known.{Names}
 use Rattle.syntax.specs.Texts.{Head}
@@ -21,20 +23,20 @@ pub record Taking {A : Type 0} (m : Taker A) (words : List ℕ) (at r : ℕ) : T
   pub value : A
   pub is : m (drop at words) ≡ took value (drop r words)
 
-pub taking : {A : Type 0} {m : Taker A} {words : List ℕ} {at r : ℕ} → Ends m words at r → r ≤ length words → Taking m words at r
+pub taking : {A : Type 0} {m : Taker A} {words : List ℕ} {at r : ℕ} → Ends m words at (code.Some r) → Taking m words at r
 unfolding EndsAt
-taking {A} {m} {words} {at} {r} x l = go (m (drop at words)) refl x.is
+taking {A} {m} {words} {at} {r} x = go (m (drop at words)) refl x.is
   where
-    go : (t : Taken A) → m (drop at words) ≡ t → EndsAt words t r → Taking m words at r
+    go : (t : Taken A) → m (drop at words) ≡ t → EndsAt words t (code.Some r) → Taking m words at r
     go (took a rest) e d = record { value = a; is = e ∙ ap (took a) d.0 }
-    go missing e d = absurd (omega (arith, d, l))
+    go missing e d = bools.never (sym d)
 
-pub not_taken : {A : Type 0} {m : Taker A} {words : List ℕ} {at r : ℕ} → Ends m words at r → length words < r → m (drop at words) ≡ missing
+pub not_taken : {A : Type 0} {m : Taker A} {words : List ℕ} {at : ℕ} → Ends m words at code.None → m (drop at words) ≡ missing
 unfolding EndsAt
-not_taken {A} {m} {words} {at} {r} x l = go (m (drop at words)) refl x.is
+not_taken {A} {m} {words} {at} x = go (m (drop at words)) refl x.is
   where
-    go : (t : Taken A) → m (drop at words) ≡ t → EndsAt words t r → m (drop at words) ≡ missing
-    go (took a rest) e d = let n = d.1 in absurd (omega (arith, n, l))
+    go : (t : Taken A) → m (drop at words) ≡ t → EndsAt words t code.None → m (drop at words) ≡ missing
+    go (took a rest) e d = absurd d
     go missing e d = e
 
 module _ (common : List ℕ) where
@@ -149,9 +151,9 @@ module _ (common : List ℕ) where
             let d = first_good (drop at words) y.value (drop r words) y.is in
             (x.alike ∙ a ∙ rw (← e, t), (let g = x.counted in let f : good_views hs n common (length (drop at words)) (drop at words) ≡ 0 = rw (← e, t) at d in omega (arith, g, f)))
 
-        pub off-objects : {r : ℕ} → Ends (a_view common) words at r → length words < r → at < length words → (are_objects hs n common words ≡ false) × (good_views hs n common (length words) words ≡ good)
-        off-objects y l m =
-            let a = not_taken y l in
+        pub off-objects : Ends (a_view common) words at code.None → at < length words → (are_objects hs n common words ≡ false) × (good_views hs n common (length words) words ≡ good)
+        off-objects y m =
+            let a = not_taken y in
             let d = length-drop at words in
             (x.alike ∙ no-object (drop at words) (omega (arith, d, m)) a, x.counted ∙ ap (λ (k : ℕ). good + k) (none-good (drop at words) a) ∙ omega arith)
 

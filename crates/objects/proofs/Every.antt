@@ -5,7 +5,8 @@ use mathlib.Core.Path.{◌≡◌, refl, sym, ap, ◌∙◌}
 use native.Mathlib.Omega.{arith}
 use Prim.Native.Nat.{ℕ, suc, ◌≤◌}
 use lib.ListN.{length, drop}
-use Rattle.objects.proofs.Looked.{ends-took}
+use Rattle.std.specs.Prelude.{Some, None}
+use Rattle.objects.proofs.Looked.{ends-took, not-none}
 use Rattle.objects.proofs.TakeLaws.{Exact, Any, times-exact}
 use Rattle.objects.specs.Places.{Ends}
 use Rattle.objects.specs.Take.{Taker, took, times}
@@ -26,7 +27,8 @@ module _ {A : Type 0} {t : Taker A} {w : A → List ℕ} (exact : Exact t w Any)
     pub tail : List ℕ
     pub here : drop q words ≡ w first ++ tail
     pub alike : every f as' ≡ (f first && every f later)
-    pub behind : (r : ℕ) → Ends t words q r → (r ≤ length words) × (times m t (drop r words) ≡ took later rest)
+    pub there : Ends t words q None → ⊥
+    pub behind : (r : ℕ) → Ends t words q (Some r) → (r ≤ length words) × (times m t (drop r words) ≡ took later rest)
 
   pub passing-all : (m n q at : ℕ) → m ≡ n → q ≡ at → times n t (drop at words) ≡ took as' rest → Passing m q
   passing-all m n q at d g e = record { left = as'; taken = rw (d, g) e; alike = refl }
@@ -56,6 +58,7 @@ module _ {A : Type 0} {t : Taker A} {w : A → List ℕ} (exact : Exact t w Any)
             tail = more;
             here = here;
             alike = a;
+            there = not-none b more (ap t here ∙ exact.back b tt more);
             behind = λ r y.
                 let z = ends-took b more (ap t here ∙ exact.back b tt more) y in
                 (z.1, ap (times m t) (sym z.0) ∙ (times-exact exact m).back bs (omega (arith, l)) rest);
@@ -67,5 +70,5 @@ module _ {A : Type 0} {t : Taker A} {w : A → List ℕ} (exact : Exact t w Any)
   pub first-fails : {m q : ℕ} (x : Heading m q) (b : Bool) → b ≡ f x.first → b ≡ false → false ≡ every f as'
   first-fails x b e t₁ = rw (x.alike, ← e, t₁)
 
-  pub first_passes : {m q : ℕ} (x : Heading m q) (b : Bool) → b ≡ f x.first → b ≡ true → (r : ℕ) → Ends t words q r → Passing m r
+  pub first_passes : {m q : ℕ} (x : Heading m q) (b : Bool) → b ≡ f x.first → b ≡ true → (r : ℕ) → Ends t words q (Some r) → Passing m r
   first_passes x b e t₁ r y = record { left = x.later; taken = (x.behind r y).1; alike = rw (x.alike, ← e, t₁) }

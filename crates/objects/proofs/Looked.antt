@@ -7,6 +7,7 @@ use Prim.Native.Nat.{ℕ, zero, suc, ◌+◌, ◌*◌, ◌<◌, ◌≤◌}
 use lib.ListN.{get_or-append, length, get_or, take, drop, length-append, length-drop}
 use lib.Seq.{drop-drop, get_or-drop, length-take-le}
 use Rattle.base.specs.Common.{same}
+use Rattle.std.specs.Prelude.{Some, None}
 use Rattle.parts.specs.Link.{listed_type}
 use Rattle.syntax.specs.Texts.{Head}
 use Rattle.objects.proofs.TakeLaws.{times-exact}
@@ -93,20 +94,26 @@ all_split (p ∷ ps) (suc k) rest =
     append_assoc (pair_words p) (all pair_words ps) rest ∙ ap (λ ws. pair_words p ++ ws) (all_split ps k rest) ∙ sym (append_assoc (pair_words p) (all pair_words (take k ps)) (all pair_words (drop k ps) ++ rest))
 
 -- where a taker ends whose outcome is known
-pub ends-took : {A : Type 0} {m : Taker A} {words : List ℕ} {at r : ℕ} (a : A) (rest : List ℕ) → m (drop at words) ≡ took a rest → Ends m words at r → (rest ≡ drop r words) × (r ≤ length words)
+pub ends-took : {A : Type 0} {m : Taker A} {words : List ℕ} {at r : ℕ} (a : A) (rest : List ℕ) → m (drop at words) ≡ took a rest → Ends m words at (Some r) → (rest ≡ drop r words) × (r ≤ length words)
 unfolding EndsAt
 ends-took {m = m} {words = words} {at = at} {r = r} a rest e x = rw e at x.is
+
+-- it ends somewhere
+pub not-none : {A : Type 0} {m : Taker A} {words : List ℕ} {at : ℕ} (a : A) (rest : List ℕ) → m (drop at words) ≡ took a rest → Ends m words at None → ⊥
+unfolding EndsAt
+not-none {m = m} {words = words} {at = at} a rest e x = rw e at x.is
 
 -- the operand rule of the pair at the place k
 pub record OperandAt (words : List ℕ) (ps : List Pair) (k at : ℕ) : Type 0 where
   pub inside : at + 2 ≤ length words
   pub operand : Name
-  pub found : (r : ℕ) → Ends a_name words (at + 2) r → (r ≤ length words) × NameAt words r operand
+  pub found : (r : ℕ) → Ends a_name words (at + 2) (Some r) → (r ≤ length words) × NameAt words r operand
+  pub there : Ends a_name words (at + 2) None → ⊥
   pub stands : (n : Name) → stands_at ps k n ≡ same operand.text n.text
 
 operand-of : (words : List ℕ) (ps : List Pair) (k at : ℕ) (rest : List ℕ) (x : Kth ps k) → all pair_words (drop k ps) ++ rest ≡ drop at words → OperandAt words ps k at
 unfolding all pair_words name_words
-operand-of words ps k at rest x e = record { inside = inside; operand = x.pair.operand; found = found; stands = x.stands }
+operand-of words ps k at rest x e = record { inside = inside; operand = x.pair.operand; found = found; there = not-none p.section (name_words p.operand ++ more) taken; stands = x.stands }
   where
     p : Pair
     p = x.pair
@@ -124,18 +131,30 @@ operand-of words ps k at rest x e = record { inside = inside; operand = x.pair.o
     behind : drop (at + 2) words ≡ name_words p.section ++ (name_words p.operand ++ more)
     behind = sym (drop-drop 2 at words) ∙ ap (λ (ws : List ℕ). drop 2 ws) here
 
-    found : (r : ℕ) → Ends a_name words (at + 2) r → (r ≤ length words) × NameAt words r p.operand
+    taken : a_name (drop (at + 2) words) ≡ took p.section (name_words p.operand ++ more)
+    taken = ap a_name behind ∙ name-exact.back p.section tt (name_words p.operand ++ more)
+
+    found : (r : ℕ) → Ends a_name words (at + 2) (Some r) → (r ≤ length words) × NameAt words r p.operand
     found r y =
-        let z = ends-took p.section (name_words p.operand ++ more) (ap a_name behind ∙ name-exact.back p.section tt (name_words p.operand ++ more)) y in
+        let z = ends-took p.section (name_words p.operand ++ more) taken y in
         (z.1, name-at words r p.operand more (sym z.0))
 
-pub operand_at : (words : List ℕ) (pairs count k at : ℕ) (ps : List Pair) (rest : List ℕ) → times count a_pair (drop pairs words) ≡ took ps rest → k < count → Ends (times k a_pair) words pairs at → OperandAt words ps k at
-operand_at words pairs count k at ps rest e l y =
+-- k pairs are there
+pairs-taken : (words : List ℕ) (pairs count k : ℕ) (ps : List Pair) (rest : List ℕ) → times count a_pair (drop pairs words) ≡ took ps rest → k < count
+    → times k a_pair (drop pairs words) ≡ took (take k ps) (all pair_words (drop k ps) ++ rest)
+pairs-taken words pairs count k ps rest e l =
     let x = (times-exact pair-exact count).forth (drop pairs words) ps rest e in
     let n = x.1 in
-    let inner = all pair_words (drop k ps) ++ rest in
     let size = length-take-le k ps (omega (arith, n, l)) in
-    let z = ends-took (take k ps) inner (ap (times k a_pair) (x.0 ∙ all_split ps k rest) ∙ (times-exact pair-exact k).back (take k ps) size inner) y in
+    ap (times k a_pair) (x.0 ∙ all_split ps k rest) ∙ (times-exact pair-exact k).back (take k ps) size (all pair_words (drop k ps) ++ rest)
+
+pub pairs-there : (words : List ℕ) (pairs count k : ℕ) (ps : List Pair) (rest : List ℕ) → times count a_pair (drop pairs words) ≡ took ps rest → k < count → Ends (times k a_pair) words pairs None → ⊥
+pairs-there words pairs count k ps rest e l y = not-none (take k ps) _ (pairs-taken words pairs count k ps rest e l) y
+
+pub operand_at : (words : List ℕ) (pairs count k at : ℕ) (ps : List Pair) (rest : List ℕ) → times count a_pair (drop pairs words) ≡ took ps rest → k < count → Ends (times k a_pair) words pairs (Some at) → OperandAt words ps k at
+operand_at words pairs count k at ps rest e l y =
+    let n = ((times-exact pair-exact count).forth (drop pairs words) ps rest e).1 in
+    let z = ends-took (take k ps) (all pair_words (drop k ps) ++ rest) (pairs-taken words pairs count k ps rest e l) y in
     operand-of words ps k at rest (kth ps k (omega (arith, n, l))) z.0
 
 pub as_many : (words : List ℕ) (pairs count : ℕ) (ps : List Pair) (rest : List ℕ) → times count a_pair (drop pairs words) ≡ took ps rest → length ps ≡ count

@@ -12,9 +12,10 @@ use lib.ListN.{length, get_or, drop, length-drop}
 use lib.Seq.{get_or-drop, drop-drop, drop-append-le}
 use Rattle.base.proofs.Laws.{lt-or-le}
 use Rattle.base.specs.Bools as bools
+use Rattle.std.specs.Prelude as code
 use Rattle.std.specs.Prelude.{if◌then◌else◌}
 use Rattle.syntax.specs.Texts.{Head}
-use Rattle.objects.proofs.Looked.{ends-took, name-at}
+use Rattle.objects.proofs.Looked.{ends-took, not-none, name-at}
 use Rattle.objects.proofs.Marks.{SortIs, sort-is, sort-asking, sort-asking_with}
 use Rattle.objects.proofs.Views.{name-exact}
 use Rattle.objects.specs.declared.Depth.{Depth}
@@ -82,7 +83,8 @@ cell-on {cells = cells} x = cells-on 1 (omega arith) x
 pub record Leads (words : List ℕ) (s : Spot) (n : Name) (names : List Name) : Type 0 where
   pub here : NameAt words s.name n
   pub rest : List ℕ
-  pub behind : (r : ℕ) → Ends a_name words s.name r → (drop r words ≡ all name_words names ++ rest) × (r ≤ length words)
+  pub there : Ends a_name words s.name code.None → ⊥
+  pub behind : (r : ℕ) → Ends a_name words s.name (code.Some r) → (drop r words ≡ all name_words names ++ rest) × (r ≤ length words)
 
 pub leads : {words : List ℕ} {s : Spot} {cells : List ℕ} {n : Name} {names : List Name} → Stand words s cells (n ∷ names) → Leads words s n names
 unfolding all
@@ -92,10 +94,11 @@ leads {words} {s} {cells} {n} {names} x =
     record {
       here = name-at words s.name n more here;
       rest = x.rest;
+      there = not-none n more (ap a_name here ∙ name-exact.back n tt more);
       behind = λ r y. let z = ends-took n more (ap a_name here ∙ name-exact.back n tt more) y in (sym z.0, z.1);
     }
 
-pub call-on : {words : List ℕ} {s t : Spot} {m : ℕ} {cells : List ℕ} {n : Name} {names : List Name} → Stand words s (m ∷ cells) (n ∷ names) → Ends a_name words s.name t.name
+pub call-on : {words : List ℕ} {s t : Spot} {m : ℕ} {cells : List ℕ} {n : Name} {names : List Name} → Stand words s (m ∷ cells) (n ∷ names) → Ends a_name words s.name (code.Some t.name)
     → t.cell ≡ s.cell + 1 → t.end ≡ s.end → t.names + 1 ≡ s.names → Stand words t cells names
 call-on {words} {s} {t} {m} {cells} {n} {names} x y a b d =
     let z = leads x in
@@ -165,7 +168,7 @@ name-none {words} {s} {b} {r} a d h = record { within = within_same words d; doe
     go test same (m ∷ cells) [] x = tells_none a
     go test same (m ∷ cells) (n ∷ names) x = rw (sym (same m n cells names x) ∙ h m n cells names x) (tells_none a)
 
-pub name-some : {words : List ℕ} {s : Spot} {b : Bool} {r : Outcome} → s.cell < s.end → 0 < s.names → b ≡ true → Ends a_name words s.name r.spot.name → r.spot.name ≤ length words → r.spot.cell ≡ s.cell + 1
+pub name-some : {words : List ℕ} {s : Spot} {b : Bool} {r : Outcome} → s.cell < s.end → 0 < s.names → b ≡ true → Ends a_name words s.name (code.Some r.spot.name) → r.spot.name ≤ length words → r.spot.cell ≡ s.cell + 1
     → r.spot.end ≡ s.end → r.spot.names + 1 ≡ s.names → r.ok ≡ true → r.past ≡ true → r.exits ≡ false → NameDone words s b r
 unfolding on_call
 name-some {words} {s} {b} {r} l m t y u a d e o p q = record {

@@ -10,7 +10,8 @@ use Rattle.names.specs.Known.{Names}
 use Rattle.parts.specs.Form.{packed}
 use Rattle.syntax.specs.Texts.{Head}
 use Rattle.objects.proofs.EndsLong.{packed-length}
-use Rattle.objects.proofs.Looked.{ends-took}
+use Rattle.std.specs.Prelude.{Some, None}
+use Rattle.objects.proofs.Looked.{ends-took, not-none}
 use Rattle.objects.proofs.TakeLaws.{times-exact}
 use Rattle.objects.proofs.Views.{pair-exact, rule-exact}
 use Rattle.objects.specs.Order.{rule_in_order}
@@ -27,7 +28,8 @@ pub record ViewAt (words common : List ℕ) (v : View) (at : ℕ) : Type 0 where
   pub inside : at + head_of common ≤ length words
   pub rule-count : get_or words (at + 5) 0 ≡ length v.rules
   pub pair-count : get_or words (at + 6) 0 ≡ length v.pairs
-  pub parts : (r : ℕ) → Ends (times (length v.pairs) a_pair) words (at + head_of common) r → (r ≤ length words) × PartsAt words (at + head_of common) (length v.pairs) r (length v.rules) v
+  pub there : Ends (times (length v.pairs) a_pair) words (at + head_of common) None → ⊥
+  pub parts : (r : ℕ) → Ends (times (length v.pairs) a_pair) words (at + head_of common) (Some r) → (r ≤ length words) × PartsAt words (at + head_of common) (length v.pairs) r (length v.rules) v
 
 pub view-at : (words common : List ℕ) (v : View) (at : ℕ) (k : List ℕ) → drop at words ≡ view_words common v ++ k → ViewAt words common v at
 unfolding view_words body_words
@@ -35,6 +37,7 @@ view-at words common v at k e = record {
   inside = inside;
   rule-count = sym (get_or-drop at words 5 0) ∙ ap (λ (ws : List ℕ). get_or ws 5 0) e;
   pair-count = sym (get_or-drop at words 6 0) ∙ ap (λ (ws : List ℕ). get_or ws 6 0) e;
+  there = λ y. not-none v.pairs (rs ++ k) pairs_there y;
   parts = parts;
 }
   where
@@ -67,7 +70,7 @@ view-at words common v at k e = record {
     pairs_there : times (length v.pairs) a_pair (drop (at + head_of common) words) ≡ took v.pairs (rs ++ k)
     pairs_there = ap (times (length v.pairs) a_pair) pairs_here ∙ (times-exact pair-exact (length v.pairs)).back v.pairs refl (rs ++ k)
 
-    parts : (r : ℕ) → Ends (times (length v.pairs) a_pair) words (at + head_of common) r → (r ≤ length words) × PartsAt words (at + head_of common) (length v.pairs) r (length v.rules) v
+    parts : (r : ℕ) → Ends (times (length v.pairs) a_pair) words (at + head_of common) (Some r) → (r ≤ length words) × PartsAt words (at + head_of common) (length v.pairs) r (length v.rules) v
     parts r y =
         let z = ends-took v.pairs (rs ++ k) pairs_there y in (
           z.1,
@@ -81,8 +84,12 @@ view-at words common v at k e = record {
 
 -- the same by numbers that the code has
 pub parts-by : {words common : List ℕ} {v : View} {at : ℕ} → ViewAt words common v at → (place pairs rules r : ℕ) → place ≡ at + head_of common → pairs ≡ get_or words (at + 6) 0 → rules ≡ get_or words (at + 5) 0
-    → Ends (times pairs a_pair) words place r → (r ≤ length words) × PartsAt words place pairs r rules v
+    → Ends (times pairs a_pair) words place (Some r) → (r ≤ length words) × PartsAt words place pairs r rules v
 parts-by x place pairs rules r d e f y = rw (d, e ∙ x.pair-count, f ∙ x.rule-count) (x.parts r (rw (d, e ∙ x.pair-count) at y))
+
+pub pairs-there : {words common : List ℕ} {v : View} {at : ℕ} → ViewAt words common v at → (place pairs : ℕ) → place ≡ at + head_of common → pairs ≡ get_or words (at + 6) 0
+    → Ends (times pairs a_pair) words place None → ⊥
+pairs-there x place pairs d e y = x.there (rw (d, e ∙ x.pair-count) at y)
 
 module _ (hs : List Head) (n : Names) (v : View) where
   no-rule-of : (rs : List RuleView) → length rs ≡ 0 → is_some rs ≡ false

@@ -1,6 +1,7 @@
 -- What the code promises that goes over the cells of a rule by places: for all cells and names that stand there, its outcome is that of file Order.
 use Rattle.std.specs.Prelude.{Bool, true, false, ◌&&◌, List, ◌∷◌, ◌++◌, ◌≡◌, ℕ, ◌+◌, ◌-◌, ◌≤◌, leb, ltb, length, drop, if◌then◌else◌}
 use Rattle.std.proofs.Math.Option.{Option, none, some}
+use Rattle.std.specs.Prelude as code
 use Rattle.base.specs.Common.{given}
 use Rattle.syntax.specs.Texts.{Head}
 use Rattle.objects.specs.declared.Body.{Body}
@@ -150,11 +151,11 @@ pub record LastDone (common heads words : List ℕ) (g : Ground) (d : Depth) (s 
       → Does words s (λ cells names. an_arm hs ps g.valued (λ l d s n. acts hs ps g.valued k l d s n) (λ l d b t r s n. arms hs ps g.valued k l d b t r s n) d.left d.inside l.token l.labelled room (arm_of l.x) cells names) r
 
 -- the cells of the rule at q and the names of its calls
-pub record BodyDone (words : List ℕ) (q : ℕ) (r : Body) : Type 0 where
-  pub low : r.ok ≡ true → r.spot.cell ≤ r.spot.end
-  pub high : r.ok ≡ true → r.spot.end ≤ length words
-  pub named : r.ok ≡ true → r.spot.name ≤ length words
-  pub tells : (v : RuleView) (k : List ℕ) → drop q words ≡ rule_words v ++ k → (r.ok ≡ true) × (r.valued ≡ given v.gives) × Stand words r.spot v.cells v.calls
+pub record BodyDone (words : List ℕ) (q : ℕ) (r : code.Option Body) : Type 0 where
+  pub low : code.IfSome r (λ b. b.spot.cell ≤ b.spot.end)
+  pub high : code.IfSome r (λ b. b.spot.end ≤ length words)
+  pub named : code.IfSome r (λ b. b.spot.name ≤ length words)
+  pub tells : (v : RuleView) (k : List ℕ) → drop q words ≡ rule_words v ++ k → code.IsSomeAnd r (λ b. (b.valued ≡ given v.gives) × Stand words b.spot v.cells v.calls)
 
 -- all of this file computes where this is unfolded
 unfoldable pub opened : Unit {0}

@@ -1,5 +1,5 @@
--- What the code says of words that it reads by places: the place behind what is taken from a place on, or one past the end, where it is not there.
-use Rattle.std.specs.Prelude.{◌≡◌, List, [], ◌∷◌, ℕ, zero, suc, ◌+◌, ◌*◌, ◌<◌, ◌≤◌, length, get_or, take, drop}
+-- What the code says of words that it reads by places: the place behind what is taken from a place on, or none, where it is not there.
+use Rattle.std.specs.Prelude.{◌≡◌, List, [], ◌∷◌, ℕ, zero, suc, ◌+◌, ◌*◌, ◌<◌, ◌≤◌, Option, IsNone, IsSomeAnd, length, get_or, take, drop}
 use Rattle.base.specs.Common.{given}
 use Rattle.declarations.specs.Decls.{index_of}
 use Rattle.names.specs.Known.{Names, find_operators}
@@ -8,14 +8,13 @@ use Rattle.syntax.specs.Texts.{Head}
 use Rattle.objects.specs.Take.{Taken, took, missing, Taker, times}
 use Rattle.objects.specs.View.{Name, View, a_pair, a_rule}
 
-unfoldable pub EndsAt : {A : Type 0} → List ℕ → Taken A → ℕ → Type 0
-EndsAt words (took a rest) r = (rest ≡ drop r words) × (r ≤ length words)
-EndsAt words missing r = length words < r
+unfoldable pub EndsAt : {A : Type 0} → List ℕ → Taken A → Option ℕ → Type 0
+EndsAt words (took a rest) r = IsSomeAnd r (λ p. (rest ≡ drop p words) × (p ≤ length words))
+EndsAt words missing r = IsNone r
 
 -- m, from the place `at` on, ends at r
-pub record Ends {A : Type 0} (m : Taker A) (words : List ℕ) (at r : ℕ) : Type 0 where
+pub record Ends {A : Type 0} (m : Taker A) (words : List ℕ) (at : ℕ) (r : Option ℕ) : Type 0 where
   pub is : EndsAt words (m (drop at words)) r
-  pub near : r ≤ length words + 1
 
 -- the name of the list's line i
 unfoldable pub text_at : List Head → ℕ → List ℕ

@@ -1,7 +1,7 @@
 // Objects that anybody wrote, read from their words: definitions, theorems, and the code that goes over the words by places.
 #![tactic(auto)]
 
-ghost use Rattle.std.specs.Prelude.{true, false, ◌&&◌, ◌||◌, List, [], ◌++◌, ◌≡◌, ℕ, ◌+◌, ◌*◌, ◌<◌, ◌≤◌, length, get_or, take, drop};
+ghost use Rattle.std.specs.Prelude.{true, false, ◌&&◌, ◌||◌, List, [], ◌++◌, ◌≡◌, ℕ, ◌+◌, ◌*◌, ◌<◌, ◌≤◌, IfSome, length, get_or, take, drop};
 ghost use Rattle.std.proofs.Math.Option.{Option};
 ghost use Rattle.base.specs.Common.{same};
 ghost use Rattle.machine.specs.Bytes.{words_of};
@@ -19,8 +19,6 @@ ghost use Rattle.objects.specs.Places.{Ends, NameAt, HeadsAt, SectionsAt, PartsA
 ghost use Rattle.objects.specs.Take.{took, some_words, the_words, times};
 ghost use Rattle.objects.specs.View.{Name, Pair, RuleView, View, pair_words, rule_words, view_words, a_name, an_option, a_pair, some_calls, some_cells, a_rule, a_body, a_view};
 ghost use Rattle.objects.specs.Whole.{calls_of, texts_of, every, pair_in_order, view_in_order, are_objects, good_views, evenly};
-
-use base::{byte, wide};
 
 // `PO`, the first word of an object.
 const MARK: usize = 20559;
@@ -45,162 +43,134 @@ pub fn total(objects: &[u8]) -> usize
 pub fn number(objects: &[u8], i: usize) -> usize
     ensures { (result ≡ get_or (words_of objects.now) i 0) × (result < 65536) }
 {
-    wide(machine::word(objects, i))
+    usize::from(machine::word(objects, i))
 }
 
-// The place behind n words from `at` on; one past the end where there are fewer. The functions below go by this too.
-pub fn past_words(objects: &[u8], at: usize, n: usize) -> usize
+// The place behind n words from `at` on; none where there are fewer. The functions below go by this too.
+pub fn past_words(objects: &[u8], at: usize, n: usize) -> Option<usize>
     requires { at ≤ length (words_of objects.now) }
-    ensures { Ends (some_words n) (words_of objects.now) at result }
+    ensures ends { Ends (some_words n) (words_of objects.now) at result }
+    ensures within { IfSome result (λ r. r ≤ length (words_of objects.now)) }
 {
-    let end = total(objects);
-    if n <= end - at {
-        return at + n;
+    if n <= total(objects) - at {
+        Some(at + n)
+    } else {
+        None
     }
-    end + 1
 }
 
 // A name: where it stands, its length, its bytes.
-pub fn past_name(objects: &[u8], at: usize) -> usize
+pub fn past_name(objects: &[u8], at: usize) -> Option<usize>
     requires { at ≤ length (words_of objects.now) }
-    ensures { Ends a_name (words_of objects.now) at result }
+    ensures ends { Ends a_name (words_of objects.now) at result }
+    ensures within { IfSome result (λ r. r ≤ length (words_of objects.now)) }
 {
-    let end = total(objects);
-    if end - at < 2 {
-        return end + 1;
+    if total(objects) - at < 2 {
+        return None;
     }
     past_words(objects, at + 2, number(objects, at + 1))
 }
 
-pub fn past_names(objects: &[u8], at: usize, n: usize) -> usize
+// This loop and those of the pairs and of the rules stay apart: one over a closure needs a relation of n calls in its contract, and is no plainer.
+pub fn past_names(objects: &[u8], at: usize, n: usize) -> Option<usize>
     requires { at ≤ length (words_of objects.now) }
-    ensures { Ends (times n a_name) (words_of objects.now) at result }
+    ensures ends { Ends (times n a_name) (words_of objects.now) at result }
+    ensures within { IfSome result (λ r. r ≤ length (words_of objects.now)) }
 {
-    let end = total(objects);
     let mut p = at;
-    let mut i = 0;
-    while i < n {
-        p = past_name(objects, p);
-        if p > end {
-            return p;
-        }
-        i += 1;
+    for _ in 0..n {
+        p = past_name(objects, p)?;
     }
-    p
+    Some(p)
 }
 
 // 0, or 1 and a name.
-pub fn past_option(objects: &[u8], at: usize) -> usize
+pub fn past_option(objects: &[u8], at: usize) -> Option<usize>
     requires { at ≤ length (words_of objects.now) }
-    ensures { Ends an_option (words_of objects.now) at result }
+    ensures ends { Ends an_option (words_of objects.now) at result }
+    ensures within { IfSome result (λ r. r ≤ length (words_of objects.now)) }
 {
-    let end = total(objects);
-    if at == end {
-        return end + 1;
+    if at == total(objects) {
+        return None;
     }
-    let sign = number(objects, at);
-    if sign == 0 {
-        return at + 1;
+    match number(objects, at) {
+        0 => Some(at + 1),
+        1 => past_name(objects, at + 1),
+        _ => None,
     }
-    if sign == 1 {
-        return past_name(objects, at + 1);
-    }
-    end + 1
 }
 
 // A pair: the `^`, its section and its operand rule.
-pub fn past_pair(objects: &[u8], at: usize) -> usize
+pub fn past_pair(objects: &[u8], at: usize) -> Option<usize>
     requires { at ≤ length (words_of objects.now) }
-    ensures { Ends a_pair (words_of objects.now) at result }
+    ensures ends { Ends a_pair (words_of objects.now) at result }
+    ensures within { IfSome result (λ r. r ≤ length (words_of objects.now)) }
 {
-    let end = total(objects);
-    if end - at < 2 {
-        return end + 1;
+    if total(objects) - at < 2 {
+        return None;
     }
-    let operand = past_name(objects, at + 2);
-    if operand > end {
-        return operand;
-    }
+    let operand = past_name(objects, at + 2)?;
     past_name(objects, operand)
 }
 
-pub fn past_pairs(objects: &[u8], at: usize, n: usize) -> usize
+pub fn past_pairs(objects: &[u8], at: usize, n: usize) -> Option<usize>
     requires { at ≤ length (words_of objects.now) }
-    ensures { Ends (times n a_pair) (words_of objects.now) at result }
+    ensures ends { Ends (times n a_pair) (words_of objects.now) at result }
+    ensures within { IfSome result (λ r. r ≤ length (words_of objects.now)) }
 {
-    let end = total(objects);
     let mut p = at;
-    let mut i = 0;
-    while i < n {
-        p = past_pair(objects, p);
-        if p > end {
-            return p;
-        }
-        i += 1;
+    for _ in 0..n {
+        p = past_pair(objects, p)?;
     }
-    p
+    Some(p)
 }
 
 // As many names as a word says.
-pub fn past_calls(objects: &[u8], at: usize) -> usize
+pub fn past_calls(objects: &[u8], at: usize) -> Option<usize>
     requires { at ≤ length (words_of objects.now) }
-    ensures { Ends some_calls (words_of objects.now) at result }
+    ensures ends { Ends some_calls (words_of objects.now) at result }
+    ensures within { IfSome result (λ r. r ≤ length (words_of objects.now)) }
 {
-    let end = total(objects);
-    if at == end {
-        return end + 1;
+    if at == total(objects) {
+        return None;
     }
     past_names(objects, at + 1, number(objects, at))
 }
 
 // As many cells as a word says.
-pub fn past_cells(objects: &[u8], at: usize) -> usize
+pub fn past_cells(objects: &[u8], at: usize) -> Option<usize>
     requires { at ≤ length (words_of objects.now) }
-    ensures { Ends some_cells (words_of objects.now) at result }
+    ensures ends { Ends some_cells (words_of objects.now) at result }
+    ensures within { IfSome result (λ r. r ≤ length (words_of objects.now)) }
 {
-    let end = total(objects);
-    if at == end {
-        return end + 1;
+    if at == total(objects) {
+        return None;
     }
     past_words(objects, at + 1, number(objects, at))
 }
 
 // A rule: its name, its type, the names of its calls, its cells.
-pub fn past_rule(objects: &[u8], at: usize) -> usize
+pub fn past_rule(objects: &[u8], at: usize) -> Option<usize>
     requires { at ≤ length (words_of objects.now) }
-    ensures { Ends a_rule (words_of objects.now) at result }
+    ensures ends { Ends a_rule (words_of objects.now) at result }
+    ensures within { IfSome result (λ r. r ≤ length (words_of objects.now)) }
 {
-    let end = total(objects);
-    let gives = past_name(objects, at);
-    if gives > end {
-        return gives;
-    }
-    let calls = past_option(objects, gives);
-    if calls > end {
-        return calls;
-    }
-    let cells = past_calls(objects, calls);
-    if cells > end {
-        return cells;
-    }
+    let gives = past_name(objects, at)?;
+    let calls = past_option(objects, gives)?;
+    let cells = past_calls(objects, calls)?;
     past_cells(objects, cells)
 }
 
-pub fn past_rules(objects: &[u8], at: usize, n: usize) -> usize
+pub fn past_rules(objects: &[u8], at: usize, n: usize) -> Option<usize>
     requires { at ≤ length (words_of objects.now) }
-    ensures { Ends (times n a_rule) (words_of objects.now) at result }
+    ensures ends { Ends (times n a_rule) (words_of objects.now) at result }
+    ensures within { IfSome result (λ r. r ≤ length (words_of objects.now)) }
 {
-    let end = total(objects);
     let mut p = at;
-    let mut i = 0;
-    while i < n {
-        p = past_rule(objects, p);
-        if p > end {
-            return p;
-        }
-        i += 1;
+    for _ in 0..n {
+        p = past_rule(objects, p)?;
     }
-    p
+    Some(p)
 }
 
 // The word at i of the bytes of a common part, two a word.
@@ -209,79 +179,62 @@ fn common_word(common: &[u8], i: usize) -> usize
     ensures { result ≡ get_or (packed common.now) i 0 }
 {
     let at = 2 * i;
+    let high = 256 * usize::from(common[at]);
     if at + 1 < common.len() {
-        return 256 * byte(common[at]) + byte(common[at + 1]);
+        high + usize::from(common[at + 1])
+    } else {
+        high
     }
-    256 * byte(common[at])
 }
 
 // The bytes of the common part, and no others.
-fn past_common(objects: &[u8], at: usize, common: &[u8]) -> usize
+fn past_common(objects: &[u8], at: usize, common: &[u8]) -> Option<usize>
     requires { at ≤ length (words_of objects.now) }
-    ensures { Ends (the_words (packed common.now)) (words_of objects.now) at result }
+    ensures ends { Ends (the_words (packed common.now)) (words_of objects.now) at result }
+    ensures within { IfSome result (λ r. r ≤ length (words_of objects.now)) }
 {
-    let end = total(objects);
     let n = common.len() / 2 + common.len() % 2;
-    if n > end - at {
-        return end + 1;
+    if n > total(objects) - at {
+        return None;
     }
-    let mut i = 0;
-    while i < n {
+    for i in 0..n {
         if number(objects, at + i) != common_word(common, i) {
-            return end + 1;
+            return None;
         }
-        i += 1;
     }
-    at + n
+    Some(at + n)
 }
 
 // What stands behind the length of an object: four numbers, the common part, pairs, rules.
-fn past_body(objects: &[u8], at: usize, common: &[u8]) -> usize
+fn past_body(objects: &[u8], at: usize, common: &[u8]) -> Option<usize>
     requires { at ≤ length (words_of objects.now) }
-    ensures { Ends (a_body common.now) (words_of objects.now) at result }
+    ensures ends { Ends (a_body common.now) (words_of objects.now) at result }
+    ensures within { IfSome result (λ r. r ≤ length (words_of objects.now)) }
 {
-    let end = total(objects);
-    if end - at < 4 {
-        return end + 1;
+    if total(objects) - at < 4 || number(objects, at) != common.len() {
+        return None;
     }
-    if number(objects, at) != common.len() {
-        return end + 1;
-    }
-    let pairs = past_common(objects, at + 4, common);
-    if pairs > end {
-        return pairs;
-    }
-    let rules = past_pairs(objects, pairs, number(objects, at + 3));
-    if rules > end {
-        return rules;
-    }
+    let pairs = past_common(objects, at + 4, common)?;
+    let rules = past_pairs(objects, pairs, number(objects, at + 3))?;
     past_rules(objects, rules, number(objects, at + 2))
 }
 
 // An object: `PO`, the number of the words behind these three, and those.
-pub fn past_view(objects: &[u8], at: usize, common: &[u8]) -> usize
+pub fn past_view(objects: &[u8], at: usize, common: &[u8]) -> Option<usize>
     requires { at ≤ length (words_of objects.now) }
-    ensures { Ends (a_view common.now) (words_of objects.now) at result }
+    ensures ends { Ends (a_view common.now) (words_of objects.now) at result }
+    ensures within { IfSome result (λ r. r ≤ length (words_of objects.now)) }
 {
-    let end = total(objects);
-    if end - at < 3 {
-        return end + 1;
+    if total(objects) - at < 3 || number(objects, at) != MARK {
+        return None;
     }
-    if number(objects, at) != MARK {
-        return end + 1;
-    }
-    let next = past_body(objects, at + 3, common);
-    if next > end {
-        return next;
-    }
+    let next = past_body(objects, at + 3, common)?;
     let size = next - (at + 3);
-    if number(objects, at + 1) != size / 65536 {
-        return end + 1;
+    if number(objects, at + 1) == size / 65536 && number(objects, at + 2) == size % 65536 {
+        Some(next)
+    } else {
+        None
     }
-    if number(objects, at + 2) != size % 65536 {
-        return end + 1;
-    }
-    next
 }
 
 // Whether the names at two places have the same bytes.
@@ -290,22 +243,17 @@ pub fn same_names(objects: &[u8], p: usize, q: usize) -> bool
     ensures { (n m : Name) → NameAt (words_of objects.now) p n → NameAt (words_of objects.now) q m → result ≡ same n.text m.text }
 {
     let end = total(objects);
-    if end == p {
-        return false;
-    }
-    if end == q {
+    if p == end || q == end {
         return false;
     }
     let size = number(objects, p + 1);
     if number(objects, q + 1) != size {
         return false;
     }
-    let mut i = 0;
-    while i < size {
+    for i in 0..size {
         if number(objects, p + 2 + i) != number(objects, q + 2 + i) {
             return false;
         }
-        i += 1;
     }
     true
 }
@@ -315,19 +263,13 @@ pub fn same_common(objects: &[u8], p: usize, common: &[u8], start: usize, size: 
     requires { (p ≤ length (words_of objects.now)) × (start + size ≤ length common.now) }
     ensures { (n : Name) → NameAt (words_of objects.now) p n → result ≡ same n.text (take size (drop start common.now)) }
 {
-    let end = total(objects);
-    if end == p {
+    if p == total(objects) || number(objects, p + 1) != size {
         return false;
     }
-    if number(objects, p + 1) != size {
-        return false;
-    }
-    let mut i = 0;
-    while i < size {
-        if number(objects, p + 2 + i) != byte(common[start + i]) {
+    for i in 0..size {
+        if number(objects, p + 2 + i) != usize::from(common[start + i]) {
             return false;
         }
-        i += 1;
     }
     true
 }
@@ -337,10 +279,7 @@ pub fn is_part(objects: &[u8], p: usize, common: &[u8], start: usize, size: usiz
     requires { (p ≤ length (words_of objects.now)) × (start < 65536) × (size < 65536) }
     ensures { (n : Name) → start + size ≤ length common.now → NameAt (words_of objects.now) p n → result ≡ same n.text (take size (drop start common.now)) }
 {
-    if start + size > common.len() {
-        return false;
-    }
-    same_common(objects, p, common, start, size)
+    start + size <= common.len() && same_common(objects, p, common, start, size)
 }
 
 // Whether the name at a place is on the list of the common part.
@@ -348,15 +287,12 @@ pub fn is_listed(objects: &[u8], p: usize, common: &[u8], heads: &[u16]) -> bool
     requires { p ≤ length (words_of objects.now) }
     ensures { (hs : List Head) (n : Name) → HeadsAt common.now heads.now hs → NameAt (words_of objects.now) p n → result ≡ is_listed hs n }
 {
-    let count = heads.len() / HEAD_NUMBERS;
-    let mut i = 0;
-    while i < count {
-        let start = wide(heads[HEAD_NUMBERS * i]);
-        let size = wide(heads[HEAD_NUMBERS * i + 1]);
+    for i in 0..heads.len() / HEAD_NUMBERS {
+        let start = usize::from(heads[HEAD_NUMBERS * i]);
+        let size = usize::from(heads[HEAD_NUMBERS * i + 1]);
         if is_part(objects, p, common, start, size) {
             return true;
         }
-        i += 1;
     }
     false
 }
@@ -366,18 +302,18 @@ fn stands_at(objects: &[u8], pairs: usize, count: usize, k: usize, p: usize) -> 
     requires { (pairs ≤ length (words_of objects.now)) × (p ≤ length (words_of objects.now)) }
     ensures { (ps : List Pair) (n : Name) (rest : List ℕ) → times count a_pair (drop pairs (words_of objects.now)) ≡ took ps rest → NameAt (words_of objects.now) p n → result ≡ stands_at ps k n }
 {
-    let end = total(objects);
     if k >= count {
         return false;
     }
-    let at = past_pairs(objects, pairs, k);
-    if at + 2 > end {
+    let Some(at) = past_pairs(objects, pairs, k) else {
+        return false;
+    };
+    if total(objects) - at < 2 {
         return false;
     }
-    let operand = past_name(objects, at + 2);
-    if operand > end {
+    let Some(operand) = past_name(objects, at + 2) else {
         return false;
-    }
+    };
     same_names(objects, operand, p)
 }
 
@@ -386,18 +322,15 @@ fn among_names(objects: &[u8], at: usize, n: usize, p: usize) -> bool
     requires { (at ≤ length (words_of objects.now)) × (p ≤ length (words_of objects.now)) }
     ensures { (ns : List Name) (m : Name) (rest : List ℕ) → times n a_name (drop at (words_of objects.now)) ≡ took ns rest → NameAt (words_of objects.now) p m → result ≡ is_one m.text (texts_of ns) }
 {
-    let end = total(objects);
     let mut q = at;
-    let mut i = 0;
-    while i < n {
+    for _ in 0..n {
         if same_names(objects, p, q) {
             return true;
         }
-        q = past_name(objects, q);
-        if q > end {
+        let Some(next) = past_name(objects, q) else {
             return false;
-        }
-        i += 1;
+        };
+        q = next;
     }
     false
 }
@@ -407,13 +340,13 @@ fn calls_name(objects: &[u8], q: usize, p: usize) -> bool
     requires { (q ≤ length (words_of objects.now)) × (p ≤ length (words_of objects.now)) }
     ensures { (v : RuleView) (m : Name) (k : List ℕ) → drop q (words_of objects.now) ≡ rule_words v ++ k → NameAt (words_of objects.now) p m → result ≡ is_one m.text (texts_of v.calls) }
 {
-    let end = total(objects);
-    let gives = past_name(objects, q);
-    if gives > end {
+    let Some(gives) = past_name(objects, q) else {
         return false;
-    }
-    let calls = past_option(objects, gives);
-    if calls >= end {
+    };
+    let Some(calls) = past_option(objects, gives) else {
+        return false;
+    };
+    if calls == total(objects) {
         return false;
     }
     among_names(objects, calls + 1, number(objects, calls), p)
@@ -424,18 +357,15 @@ fn is_called(objects: &[u8], at: usize, n: usize, p: usize) -> bool
     requires { (at ≤ length (words_of objects.now)) × (p ≤ length (words_of objects.now)) }
     ensures { (vs : List RuleView) (m : Name) (rest : List ℕ) → times n a_rule (drop at (words_of objects.now)) ≡ took vs rest → NameAt (words_of objects.now) p m → result ≡ is_one m.text (texts_of (calls_of vs)) }
 {
-    let end = total(objects);
     let mut q = at;
-    let mut i = 0;
-    while i < n {
+    for _ in 0..n {
         if calls_name(objects, q, p) {
             return true;
         }
-        q = past_rule(objects, q);
-        if q > end {
+        let Some(next) = past_rule(objects, q) else {
             return false;
-        }
-        i += 1;
+        };
+        q = next;
     }
     false
 }
@@ -483,7 +413,7 @@ const ASK_WITH: usize = cells::ASK_WITH as usize;
 const PAST_OPERATIONS: usize = machine::PAST_OPERATIONS as usize;
 
 // Where the object's pairs stand and how many there are, and whether the rule is a choice rule.
-#[derive(Clone, Copy)]
+#[derive(Clone, Copy, Debug, PartialEq, Eq)]
 pub struct Ground {
     pub pairs: usize,
     pub count: usize,
@@ -491,14 +421,14 @@ pub struct Ground {
 }
 
 // How many cycles and choices may still be entered, and whether a cycle was.
-#[derive(Clone, Copy)]
+#[derive(Clone, Copy, Debug, PartialEq, Eq)]
 pub struct Depth {
     pub left: usize,
     pub inside: bool,
 }
 
 // The place of the next cell and the place behind the last, the place of the next name and how many names are left.
-#[derive(Clone, Copy)]
+#[derive(Clone, Copy, Debug, PartialEq, Eq)]
 pub struct Spot {
     pub cell: usize,
     pub end: usize,
@@ -507,7 +437,7 @@ pub struct Spot {
 }
 
 // Whether cells are in order; and if so the place behind them, whether they go past themselves, and whether a `>` in them belongs to the cycle around.
-#[derive(Clone, Copy)]
+#[derive(Clone, Copy, Debug, PartialEq, Eq)]
 pub struct Outcome {
     pub ok: bool,
     pub spot: Spot,
@@ -516,31 +446,18 @@ pub struct Outcome {
 }
 
 // The first cell of the alternative that ends a choice, whether the choice is by token, and whether a label stands before.
-#[derive(Clone, Copy)]
+#[derive(Clone, Copy, Debug, PartialEq, Eq)]
 pub struct Last {
     pub x: usize,
     pub token: bool,
     pub labelled: bool,
 }
 
-// A rule's cells and the names of its calls, where they are there, and whether it is a choice rule.
-#[derive(Clone, Copy)]
+// A rule's cells and the names of its calls, and whether it is a choice rule.
+#[derive(Clone, Copy, Debug, PartialEq, Eq)]
 pub struct Body {
-    pub ok: bool,
     pub valued: bool,
     pub spot: Spot,
-}
-
-fn both(a: bool, b: bool) -> bool
-    ensures { result ≡ (a && b) }
-{
-    if a { b } else { false }
-}
-
-fn either(a: bool, b: bool) -> bool
-    ensures { result ≡ (a || b) }
-{
-    if a { true } else { b }
 }
 
 fn refused(spot: Spot) -> Outcome
@@ -572,9 +489,7 @@ fn ahead(spot: Spot, n: usize) -> Spot
 {
     Spot {
         cell: spot.cell + n,
-        end: spot.end,
-        name: spot.name,
-        names: spot.names,
+        ..spot
     }
 }
 
@@ -582,14 +497,10 @@ fn ahead(spot: Spot, n: usize) -> Spot
 fn beside(past: bool, exits: bool, o: Outcome) -> Outcome
     ensures { (result.ok ≡ o.ok) × (result.spot ≡ o.spot) × (result.past ≡ (past || o.past)) × (result.exits ≡ (exits || o.exits)) }
 {
-    let p = either(past, o.past);
-    let e = either(exits, o.exits);
-    let spot = o.spot;
     Outcome {
-        ok: o.ok,
-        spot,
-        past: p,
-        exits: e,
+        past: past | o.past,
+        exits: exits | o.exits,
+        ..o
     }
 }
 
@@ -597,12 +508,10 @@ fn beside(past: bool, exits: bool, o: Outcome) -> Outcome
 fn around(o: Outcome) -> Outcome
     ensures { (result.ok ≡ o.ok) × (result.spot ≡ o.spot) × (result.past ≡ o.exits) × (result.exits ≡ false) }
 {
-    let spot = o.spot;
     Outcome {
-        ok: o.ok,
-        spot,
         past: o.exits,
         exits: false,
+        ..o
     }
 }
 
@@ -629,18 +538,17 @@ fn after_call(objects: &[u8], spot: Spot, ok: bool) -> Outcome
     if spot.names == 0 {
         return refused(spot);
     }
-    let name = past_name(objects, spot.name);
-    if name > total(objects) {
+    let Some(name) = past_name(objects, spot.name) else {
         return refused(spot);
-    }
+    };
     if !ok {
         return refused(spot);
     }
     let s = Spot {
         cell: spot.cell + 1,
-        end: spot.end,
         name,
         names: spot.names - 1,
+        ..spot
     };
     passed(s, true, false)
 }
@@ -662,10 +570,7 @@ fn rule_ok(objects: &[u8], common: &[u8], heads: &[u16], spot: Spot) -> bool
     requires { spot.name ≤ length (words_of objects.now) }
     ensures { RuleOk common.now heads.now (words_of objects.now) spot result }
 {
-    if number(objects, spot.cell) != 0 {
-        return false;
-    }
-    is_listed(objects, spot.name, common, heads)
+    number(objects, spot.cell) == 0 && is_listed(objects, spot.name, common, heads)
 }
 
 // An action of one cell, alone or with a value behind it.
@@ -737,12 +642,12 @@ fn asked(spot: Spot, x: usize) -> Outcome
     ensures { (words : List ℕ) → AskedDone words spot x result }
 {
     if x < ASK_WITH {
-        return passed(spot, true, false);
+        passed(spot, true, false)
+    } else if x < PAST_OPERATIONS {
+        operand(spot, true)
+    } else {
+        refused(spot)
     }
-    if x < PAST_OPERATIONS {
-        return operand(spot, true);
-    }
-    refused(spot)
 }
 
 // n labels, where `room` more may stand.
@@ -750,14 +655,10 @@ fn labels(spot: Spot, n: usize, room: usize) -> Outcome
     requires { spot.cell ≤ spot.end }
     ensures { (words : List ℕ) → LabelsDone words spot n room result }
 {
-    if n > room {
+    if n > room || n > spot.end - spot.cell {
         return refused(spot);
     }
-    if n > spot.end - spot.cell {
-        return refused(spot);
-    }
-    let s = ahead(spot, n);
-    passed(s, true, false)
+    passed(ahead(spot, n), true, false)
 }
 
 // What stands for no otherwise, behind its cell x; a choice by token needs a label before it.
@@ -772,7 +673,7 @@ fn bare(spot: Spot, x: usize, token: bool, labelled: bool) -> Outcome
         return passed(spot, false, false);
     }
     if x == NO_TOKEN {
-        if both(token, labelled) {
+        if token & labelled {
             return passed(spot, false, false);
         }
         return refused(spot);
@@ -784,16 +685,10 @@ fn bare(spot: Spot, x: usize, token: bool, labelled: bool) -> Outcome
 fn used_up(valued: bool, o: Outcome) -> bool
     ensures { (words : List ℕ) (w : Option Went) → Tells words w o → result ≡ used_up valued w }
 {
-    if !o.ok {
+    if !o.ok || o.spot.cell != o.spot.end || o.spot.names != 0 {
         return false;
     }
-    if o.spot.cell != o.spot.end {
-        return false;
-    }
-    if o.spot.names != 0 {
-        return false;
-    }
-    !both(valued, o.past)
+    !(valued & o.past)
 }
 
 // Actions up to the cell that ends them.
@@ -812,6 +707,7 @@ fn acts(
     let mut here = spot;
     let mut past = true;
     let mut exits = false;
+    // no range: what is read says where the next stands
     while here.cell < here.end {
         let x = number(objects, here.cell);
         let next = ahead(here, 1);
@@ -822,8 +718,8 @@ fn acts(
         if !a.ok {
             return a;
         }
-        past = both(past, a.past);
-        exits = either(exits, a.exits);
+        past &= a.past;
+        exits |= a.exits;
         here = a.spot;
     }
     refused(here)
@@ -973,6 +869,7 @@ fn arms(
     let mut labelled = false;
     let mut past = false;
     let mut exits = false;
+    // no range: what is read says where the next stands
     while here.cell < here.end {
         let x = number(objects, here.cell);
         let next = ahead(here, 1);
@@ -986,8 +883,8 @@ fn arms(
         if !a.ok {
             return a;
         }
-        past = either(past, a.past);
-        exits = either(exits, a.exits);
+        past |= a.past;
+        exits |= a.exits;
         room -= x - ALTERNATIVE;
         labelled = true;
         here = a.spot;
@@ -995,45 +892,25 @@ fn arms(
     refused(here)
 }
 
-// No cells.
-fn no_body() -> Body
-    ensures { result.ok ≡ false }
-{
-    let spot = Spot {
-        cell: 0,
-        end: 0,
-        name: 0,
-        names: 0,
-    };
-    Body {
-        ok: false,
-        valued: false,
-        spot,
-    }
-}
-
 // The cells of the rule at q, and the names of its calls.
-fn body_at(objects: &[u8], q: usize) -> Body
+fn body_at(objects: &[u8], q: usize) -> Option<Body>
     requires { q ≤ length (words_of objects.now) }
     ensures { BodyDone (words_of objects.now) q result }
 {
+    let gives = past_name(objects, q)?;
+    let calls = past_option(objects, gives)?;
     let end = total(objects);
-    let gives = past_name(objects, q);
-    if gives > end {
-        return no_body();
-    }
-    let calls = past_option(objects, gives);
-    if calls >= end {
-        return no_body();
+    if calls == end {
+        return None;
     }
     let names = number(objects, calls);
-    let cells = past_names(objects, calls + 1, names);
-    if cells >= end {
-        return no_body();
+    let cells = past_names(objects, calls + 1, names)?;
+    if cells == end {
+        return None;
     }
     let size = number(objects, cells);
     if size >= end - cells {
-        return no_body();
+        return None;
     }
     let spot = Spot {
         cell: cells + 1,
@@ -1041,11 +918,10 @@ fn body_at(objects: &[u8], q: usize) -> Body
         name: calls + 1,
         names,
     };
-    Body {
-        ok: true,
+    Some(Body {
         valued: number(objects, gives) == 1,
         spot,
-    }
+    })
 }
 
 // Whether the rule at q is in order, where the object's pairs stand at `pairs`, as many as `count`.
@@ -1061,10 +937,9 @@ fn rule_in_order(
     ensures { (hs : List Head) (ps : List Pair) (v : RuleView) (k rest : List ℕ) → HeadsAt common.now heads.now hs
         → times count a_pair (drop pairs (words_of objects.now)) ≡ took ps rest → drop q (words_of objects.now) ≡ rule_words v ++ k → result ≡ rule_in_order hs ps v }
 {
-    let body = body_at(objects, q);
-    if !body.ok {
+    let Some(body) = body_at(objects, q) else {
         return false;
-    }
+    };
     let ground = Ground {
         pairs,
         count,
@@ -1082,14 +957,14 @@ fn rule_in_order(
 // Whole objects
 
 // Things one behind the other: where the first stands, and how many there are.
-#[derive(Clone, Copy)]
+#[derive(Clone, Copy, Debug, PartialEq, Eq)]
 struct Span {
     at: usize,
     count: usize,
 }
 
 // Where an object's names are looked up: its pairs, its rules, and how many declarations the rows have.
-#[derive(Clone, Copy)]
+#[derive(Clone, Copy, Debug, PartialEq, Eq)]
 struct Scope {
     pairs: Span,
     rules: Span,
@@ -1113,16 +988,14 @@ fn is_section(objects: &[u8], p: usize, text: &[u8], rows: &[u16], i: usize) -> 
     requires { (p ≤ length (words_of objects.now)) × (i ≤ 512) }
     ensures { (m : Name) → NameAt (words_of objects.now) p m → result ≡ named 600 m.text (decl_at text.now rows.now i) }
 {
-    if base::number(rows, symbols::ROW * i) != symbols::OPERATORS {
-        return false;
-    }
-    is_text(
-        objects,
-        p,
-        text,
-        base::number(rows, symbols::ROW * i + symbols::NAME_START),
-        base::number(rows, symbols::ROW * i + symbols::NAME_LEN),
-    )
+    base::number(rows, symbols::ROW * i) == symbols::OPERATORS
+        && is_text(
+            objects,
+            p,
+            text,
+            base::number(rows, symbols::ROW * i + symbols::NAME_START),
+            base::number(rows, symbols::ROW * i + symbols::NAME_LEN),
+        )
 }
 
 // The first of the n declarations that is a section of operators with the name at a place, `symbols::NONE` where there is none.
@@ -1132,12 +1005,10 @@ pub fn find_section(objects: &[u8], p: usize, text: &[u8], rows: &[u16], n: usiz
     ensures tells { (m : Name) → NameAt (words_of objects.now) p m → search.Tells result (index_of 600 m.text 0 (held text.now rows.now n)) }
     ensures below { result < 65536 → result < n }
 {
-    let mut i = 0;
-    while i < n {
+    for i in 0..n {
         if is_section(objects, p, text, rows, i) {
             return i;
         }
-        i += 1;
     }
     symbols::NONE
 }
@@ -1155,17 +1026,15 @@ fn pair_in_order(
     requires { (q ≤ length (words_of objects.now)) × (scope.rules.at ≤ length (words_of objects.now)) × (scope.declared ≤ 512) }
     ensures { (hs : List Head) (n : Names) (vs : List RuleView) (p : Pair) (k rest : List ℕ) → HeadsAt common.now heads.now hs → SectionsAt text.now rows.now scope.declared n → times scope.rules.count a_rule (drop scope.rules.at (words_of objects.now)) ≡ took vs rest → drop q (words_of objects.now) ≡ pair_words p ++ k → result ≡ pair_in_order hs n vs p }
 {
-    let end = total(objects);
-    if q + 2 > end {
+    if total(objects) - q < 2 {
         return false;
     }
     if find_section(objects, q + 2, text, rows, scope.declared) == symbols::NONE {
         return false;
     }
-    let operand = past_name(objects, q + 2);
-    if operand > end {
+    let Some(operand) = past_name(objects, q + 2) else {
         return false;
-    }
+    };
     if is_listed(objects, operand, common, heads) {
         return false;
     }
@@ -1184,18 +1053,15 @@ fn pairs_in_order(
     requires { (scope.pairs.at ≤ length (words_of objects.now)) × (scope.rules.at ≤ length (words_of objects.now)) × (scope.declared ≤ 512) }
     ensures { (hs : List Head) (n : Names) (v : View) → HeadsAt common.now heads.now hs → SectionsAt text.now rows.now scope.declared n → PartsAt (words_of objects.now) scope.pairs.at scope.pairs.count scope.rules.at scope.rules.count v → result ≡ every (pair_in_order hs n v.rules) v.pairs }
 {
-    let end = total(objects);
     let mut q = scope.pairs.at;
-    let mut i = 0;
-    while i < scope.pairs.count {
+    for _ in 0..scope.pairs.count {
         if !pair_in_order(objects, q, common, heads, text, rows, scope) {
             return false;
         }
-        q = past_pair(objects, q);
-        if q > end {
+        let Some(next) = past_pair(objects, q) else {
             return false;
-        }
-        i += 1;
+        };
+        q = next;
     }
     true
 }
@@ -1205,18 +1071,15 @@ fn rules_in_order(objects: &[u8], common: &[u8], heads: &[u16], scope: Scope) ->
     requires { (scope.pairs.at ≤ length (words_of objects.now)) × (scope.rules.at ≤ length (words_of objects.now)) }
     ensures { (hs : List Head) (v : View) → HeadsAt common.now heads.now hs → PartsAt (words_of objects.now) scope.pairs.at scope.pairs.count scope.rules.at scope.rules.count v → result ≡ every (rule_in_order hs v.pairs) v.rules }
 {
-    let end = total(objects);
     let mut q = scope.rules.at;
-    let mut i = 0;
-    while i < scope.rules.count {
+    for _ in 0..scope.rules.count {
         if !rule_in_order(objects, q, common, heads, scope.pairs.at, scope.pairs.count) {
             return false;
         }
-        q = past_rule(objects, q);
-        if q > end {
+        let Some(next) = past_rule(objects, q) else {
             return false;
-        }
-        i += 1;
+        };
+        q = next;
     }
     true
 }
@@ -1234,20 +1097,17 @@ fn view_in_order(
     requires { (at ≤ length (words_of objects.now)) × (n ≤ 512) }
     ensures { (hs : List Head) (m : Names) (v : View) (k : List ℕ) → HeadsAt common.now heads.now hs → SectionsAt text.now rows.now n m → drop at (words_of objects.now) ≡ view_words common.now v ++ k → result ≡ view_in_order hs m v }
 {
-    let end = total(objects);
     let head = common.len() / 2 + common.len() % 2 + HEADER;
-    if end - at < head {
+    if total(objects) - at < head {
         return false;
     }
-    let first = at + head;
     let pairs = Span {
-        at: first,
+        at: at + head,
         count: number(objects, at + PAIR_COUNT),
     };
-    let behind = past_pairs(objects, pairs.at, pairs.count);
-    if behind > end {
+    let Some(behind) = past_pairs(objects, pairs.at, pairs.count) else {
         return false;
-    }
+    };
     let rules = Span {
         at: behind,
         count: number(objects, at + RULE_COUNT),
@@ -1256,18 +1116,16 @@ fn view_in_order(
         return false;
     }
     let scope = Scope {
-        pairs: pairs,
-        rules: rules,
+        pairs,
+        rules,
         declared: n,
     };
-    if !pairs_in_order(objects, common, heads, text, rows, scope) {
-        return false;
-    }
-    rules_in_order(objects, common, heads, scope)
+    pairs_in_order(objects, common, heads, text, rows, scope)
+        && rules_in_order(objects, common, heads, scope)
 }
 
 // Whether the bytes are objects of the common part, one behind the other, and how many stand in order before the first that does not.
-#[derive(Clone, Copy)]
+#[derive(Clone, Copy, Debug, PartialEq, Eq)]
 pub struct Checked {
     pub ok: bool,
     pub good: usize,
@@ -1289,25 +1147,19 @@ pub fn check(
     let end = total(objects);
     let mut at = 0;
     let mut good = 0;
+    // no range: what is read says where the next stands
     while at < end {
-        let next = past_view(objects, at, common);
-        if next > end {
-            return Checked {
-                ok: false,
-                good: good,
-            };
-        }
+        let Some(next) = past_view(objects, at, common) else {
+            return Checked { ok: false, good };
+        };
         if !view_in_order(objects, at, common, heads, text, rows, n) {
-            return Checked {
-                ok: false,
-                good: good,
-            };
+            return Checked { ok: false, good };
         }
         at = next;
         good += 1;
     }
     Checked {
         ok: objects.len() % 2 == 0,
-        good: good,
+        good,
     }
 }

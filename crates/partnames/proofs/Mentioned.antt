@@ -11,12 +11,12 @@ use lib.ListN.{length, get_or, drop, length-drop}
 use lib.Seq.{drop-append-le, length-take-le}
 use borrow.Author.Tests.{eq-eqb, leb-false, ne_eqb}
 use Rattle.base.proofs.Laws.{lt-or-le}
-use Rattle.std.specs.Prelude.{if◌then◌else◌}
+use Rattle.std.specs.Prelude.{None, if◌then◌else◌}
 use Rattle.base.specs.Common.{same}
 use Rattle.base.specs.Tree.{done}
 use Rattle.collector.proofs.Laws.{appended, decl-is}
 use Rattle.collector.proofs.Rows.{appends-none, appends-then}
-use Rattle.collector.specs.Collecting.{Appends, Puts}
+use Rattle.collector.specs.Collecting.{Appends, Puts, part_of}
 use Rattle.collector.specs.declared.Row.{Row}
 use Rattle.declarations.specs.Decls.{Decl, of_rule, rule_decls}
 use Rattle.names.specs.Understand.{is_one}
@@ -98,7 +98,7 @@ module _ (text rows : List ℕ) (first n : ℕ) (h : n ≤ 512) where
 
     -- a row more
     abbrev its_row : Row
-    its_row = record { class = 7; value = n - first; name = record { start = w.start; len = w.len }; second = record { start = 0; len = 0 }; third = record { start = 0; len = 0 } }
+    its_row = record { class = 7; value = n - first; name = part_of w; second = None; third = None }
 
     pub name_new : {rows' : List ℕ} {r : ℕ} → b ≡ false → (n ≡ 512 → ⊥) → Puts rows rows' n r its_row → Mentions text rows rows' first n led (as_word text w) r
     unfolding rule_decls called_rules option_of

@@ -1,6 +1,7 @@
 -- The faults of a common part, by its rows.
 use mathlib.Core.List.{List, [], ◌∷◌, ◌++◌, append_assoc}
 use mathlib.Core.Option.{some}
+use mathlib.Core.Bool.{true, false, false≢true}
 use mathlib.Core.Path.{◌≡◌, refl, sym, ap, subst, ◌∙◌}
 use Prim.Native.Nat.{ℕ, zero, suc, ◌+◌, ◌-◌, ◌≤◌}
 use native.Mathlib.Omega.{arith}
@@ -10,7 +11,10 @@ use Rattle.declarations.proofs.Declaring.{declares-good, declares-wrong}
 use Rattle.declarations.proofs.Whole.{length-sections}
 use Rattle.declarations.specs.Decls.{Agrees, Decl, EntriesAt, decl_faults, decls_of, entries_of, rule_decls, sections_decls}
 use Rattle.declarer.proofs.Lines.{lines-mean}
-use Rattle.declarer.specs.Faults.{Faults, clean, faulty, line_faults, lines_mean}
+use Rattle.base.specs.declared.Refusal.{Refusal}
+use Rattle.std.specs.Prelude.{Result, Ok, Err, is_err}
+use Rattle.symbols.proofs.Numbered.{fault-some}
+use Rattle.declarer.specs.Faults.{Faults, clean, faulty, fault_of, line_faults, lines_mean}
 use Rattle.declarer.specs.declared.Fault.{Fault}
 use Rattle.names.specs.Declare.{declare_sections, known_rules}
 use Rattle.names.specs.Known.{Checked, good, wrong, ◌>>=◌, Known, Names, lookup_type, optional_type}
@@ -103,6 +107,15 @@ means-by c rs = refl
 -- the checks of the whole row of declarations
 abbrev asked : Common → List Rule → Checked (Unit {0})
 asked c rs = decl_faults (decls_of (together c rs)) (entries_of (together c rs)) [] (decls_of (together c rs))
+
+-- a result in numbers
+pub some-fault : {A : Type 0} (r : Result A Refusal) → is_err r ≡ true → fault_of r ≡ 0 → ⊥
+some-fault (Ok a) e z = false≢true e
+some-fault (Err x) e z = fault-some x.fault z
+
+pub no-fault : {A : Type 0} (r : Result A Refusal) → is_err r ≡ false → fault_of r ≡ 0
+no-fault (Ok a) e = refl
+no-fault (Err x) e = absurd (false≢true (sym e))
 
 -- what the checks tell of the rows, for all entries that stand at their places
 abbrev Checks : List ℕ → List ℕ → ℕ → Fault → Type 0

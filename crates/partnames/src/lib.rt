@@ -3,6 +3,7 @@
 
 ghost use Rattle.std.specs.Prelude.{true, ◌≡◌, ◌+◌, ◌*◌, ◌-◌, ◌≤◌, ◌<◌, length, take};
 ghost use Rattle.names.specs.Understand.{is_one};
+ghost use Rattle.declarer.specs.Faults.{fault_of, at_of, len_of};
 ghost use Rattle.partnames.specs.Buffer.{Copies, Fills, part_place, both_texts};
 ghost use Rattle.partnames.specs.Declaring.{BeginsLine, SomeLines, Declares};
 ghost use Rattle.partnames.specs.Heads.{Inside, CopiesPart, CopiesHeads};
@@ -11,7 +12,7 @@ ghost use Rattle.partnames.specs.Settling.{Settles};
 ghost use Rattle.scanner.specs.Next.{as_word};
 ghost use Rattle.symbols.specs.Search.{part};
 
-use base::number;
+use base::{Refusal, number};
 use collector::{Part, Row, Spot, State};
 use declarer::Fault;
 use reader::{Seen, look};
@@ -21,7 +22,7 @@ use scanner::WordAt;
 const LINE_FEED: u8 = 10;
 
 // How many rows there are, the row of the list's first line, the place behind the list.
-#[derive(Clone, Copy)]
+#[derive(Clone, Copy, Debug, PartialEq, Eq)]
 pub struct Declared {
     pub count: usize,
     pub first: usize,
@@ -29,7 +30,7 @@ pub struct Declared {
 }
 
 // How many rows there are; 0, or 9 and the first word for which there was no room.
-#[derive(Clone, Copy)]
+#[derive(Clone, Copy, Debug, PartialEq, Eq)]
 pub struct Added {
     pub count: usize,
     pub fault: u16,
@@ -52,11 +53,7 @@ fn copy_bytes(source: &[u8], from: usize, n: usize, buffer: &mut [u8], at: usize
     requires { (from + n ≤ length source.now) × (at + n ≤ length buffer.old) }
     ensures { Copies source.now buffer.old buffer.new from n at }
 {
-    let mut i: usize = 0;
-    while i < n {
-        buffer[at + i] = source[from + i];
-        i += 1;
-    }
+    buffer[at..at + n].copy_from_slice(&source[from..from + n]);
 }
 
 // Line feeds from the place `at` on, before the place `end`.
@@ -64,11 +61,7 @@ fn fill_feeds(buffer: &mut [u8], at: usize, end: usize)
     requires { (at ≤ end) × (end ≤ length buffer.old) }
     ensures { Fills buffer.old buffer.new (end - at) at }
 {
-    let mut i = at;
-    while i < end {
-        buffer[i] = LINE_FEED;
-        i += 1;
-    }
+    buffer[at..end].fill(LINE_FEED);
 }
 
 // Where the further part behind the place `from` is put, the common part being taken before the place `at`.
@@ -76,10 +69,7 @@ pub fn part_place(at: usize, from: usize) -> usize
     requires { at < 65536 }
     ensures { result ≡ part_place at from }
 {
-    if from <= at {
-        return at + 1;
-    }
-    from
+    from.max(at + 1)
 }
 
 // The common part before the place `at`, a line feed or more, the further part behind the place `from`: how many bytes they are.
@@ -113,10 +103,7 @@ fn begins_line(text: &[u8], at: usize) -> bool
     }
     let gives = look(text, sign.next);
     let semicolon = look(text, gives.next);
-    if semicolon.kind != words::SEMICOLON {
-        return false;
-    }
-    true
+    semicolon.kind == words::SEMICOLON
 }
 
 // The lines of the list, the first of them being row `count`.
@@ -126,6 +113,7 @@ fn collect_list(text: &[u8], at: usize, rows: &mut [u16], count: usize) -> Spot
 {
     let mut i = at;
     let mut n = count;
+    // no range: what is read says where the next begins
     loop {
         if !begins_line(text, i) {
             return Spot { at: i, count: n };
@@ -173,14 +161,12 @@ fn is_rule(text: &[u8], rows: &[u16], first: usize, n: usize, start: usize, len:
     requires { n ≤ 512 }
     ensures { result ≡ is_one (part text.now start len) (rules_held text.now rows.now first n) }
 {
-    let mut i = first;
-    while i < n {
+    for i in first..n {
         let name = number(rows, symbols::ROW * i + symbols::NAME_START);
         let size = number(rows, symbols::ROW * i + symbols::NAME_LEN);
         if symbols::same_part(text, start, len, name, size) {
             return true;
         }
-        i += 1;
     }
     false
 }
@@ -189,20 +175,14 @@ fn is_rule(text: &[u8], rows: &[u16], first: usize, n: usize, start: usize, len:
 fn leads(kind: u16) -> bool
     ensures { result ≡ leads kind }
 {
-    if kind == words::AT {
-        return true;
-    }
-    kind == words::SEMICOLON
+    kind == words::AT || kind == words::SEMICOLON
 }
 
 // The rules end at a word of this kind.
 fn stops(kind: u16) -> bool
     ensures { result ≡ stops kind }
 {
-    if kind <= words::LAST {
-        return true;
-    }
-    kind == words::END
+    kind <= words::LAST || kind == words::END
 }
 
 // A row for the word w, if it names a rule that has none: how many rows there are then, FULL where there was no room for it.
@@ -222,17 +202,12 @@ fn add_name(text: &[u8], rows: &mut [u16], n: usize, first: usize, led: bool, w:
     if n == base::NAMES {
         return FULL;
     }
-    let name = Part {
-        start: w.start,
-        len: w.len,
-    };
-    let none = Part { start: 0, len: 0 };
     let d = Row {
         class: symbols::RULE,
         value: n - first,
-        name,
-        second: none,
-        third: none,
+        name: Part::from(w),
+        second: None,
+        third: None,
     };
     collector::put_row(rows, n, d)
 }
@@ -245,6 +220,7 @@ pub fn add_others(text: &[u8], rows: &mut [u16], n: usize, first: usize, at: usi
     let mut i = at;
     let mut count = n;
     let mut led = true;
+    // no range: what is read says where the next begins
     loop {
         let w = look(text, i);
         let end = stops(w.kind);
@@ -273,18 +249,34 @@ pub fn add_others(text: &[u8], rows: &mut [u16], n: usize, first: usize, at: usi
 
 // Faults
 
+fn told(outcome: Result<(), Refusal>) -> Fault
+    ensures { (result.fault ≡ fault_of outcome) × (result.at ≡ at_of outcome) × (result.len ≡ len_of outcome) }
+{
+    match outcome {
+        Ok(()) => Fault {
+            fault: 0,
+            at: 0,
+            len: 0,
+        },
+        Err(refusal) => Fault {
+            fault: u16::from(refusal.fault),
+            at: refusal.at,
+            len: refusal.len,
+        },
+    }
+}
+
 // The first fault of the sections and of the list, whose lines are `lines` rows from `first` on; the first n rows are indexed.
 pub fn settle(text: &[u8], rows: &mut [u16], n: usize, first: usize, lines: usize) -> Fault
     requires { (length rows.old ≡ 6017) × (n ≤ 512) × (first + lines ≤ n) }
     ensures { Settles text.now rows.old rows.new n first lines result }
 {
     symbols::index(text, rows, n);
-    let d = declarer::check_declarations(text, rows, n);
-    if d.fault != 0 {
-        return d;
+    let declarations = declarer::check_declarations(text, rows, n);
+    if declarations.is_err() {
+        return told(declarations);
     }
-    let to = first + lines;
-    declarer::check_lines(text, rows, n, first, to)
+    told(declarer::check_lines(text, rows, n, first, first + lines))
 }
 
 // The list as numbers
@@ -316,8 +308,7 @@ pub fn copy_heads(text: &[u8], rows: &[u16], first: usize, count: usize, heads: 
     requires { (length text.now ≤ 65535) × (first + count ≤ 512) × (4 * count ≤ length heads.old) }
     ensures { CopiesHeads text.now rows.now first count heads.old heads.new }
 {
-    let mut i: usize = 0;
-    while i < count {
+    for i in 0..count {
         let k = symbols::ROW * (first + i);
         copy_part(text, rows, k + symbols::NAME_START, heads, HEAD * i);
         copy_part(
@@ -327,6 +318,5 @@ pub fn copy_heads(text: &[u8], rows: &[u16], first: usize, count: usize, heads: 
             heads,
             HEAD * i + HEAD_TYPE,
         );
-        i += 1;
     }
 }

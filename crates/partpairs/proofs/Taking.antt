@@ -9,7 +9,9 @@ use lib.Seq.{get_or-set_same, get_or-set_other}
 use Rattle.base.specs.Bools.{never}
 use Rattle.base.specs.Common.{given}
 use Rattle.declarations.specs.Decls.{Decl}
-use Rattle.maker.proofs.Holding.{section-is, operand-is, tells-given, tells-not}
+use Rattle.maker.proofs.Holding.{section-is, operand-is, answer-given, never-none}
+use Rattle.maker.proofs.Taking.{Looked, found-is, is-there}
+use Rattle.std.specs.Prelude.{Option, Some, None, is_some}
 use Rattle.maker.proofs.Walking.{sign_of}
 use Rattle.maker.specs.Marks.{behind, use_of}
 use Rattle.maker.specs.Pairing as made
@@ -23,7 +25,6 @@ use Rattle.scanner.specs.Next.{Next, as_word}
 use Rattle.scanner.specs.declared.WordAt.{WordAt}
 use Rattle.symbols.proofs.Indexing.{index_same}
 use Rattle.symbols.specs.Rows.{held}
-use Rattle.symbols.specs.Search.{Tells}
 use Rattle.syntax.specs.Reading.{peek}
 use Rattle.words.specs.Words.{Word, words_at}
 
@@ -74,29 +75,22 @@ stands_at text i {w} low h k named = record {
 pub goes_same : {rows signs : List ℕ} → count_of rows ≤ 8192 → Goes rows signs rows signs
 goes_same {rows} few = record { index = index_same rows; few = few; more = omega arith; size = refl; stay = λ j h. refl }
 
-pub use-missing : {text rows signs : List ℕ} {n own at next : ℕ} {u : Used} → count_of rows ≤ 8192 → made.UseRead text rows n next u → u.there ≡ false
+pub use-missing : {text rows signs : List ℕ} {n own at next : ℕ} {r : Option Used} → count_of rows ≤ 8192 → made.UseRead text rows n next r → r ≡ None
     → UseDone text rows signs n own at next rows signs false
-use-missing few r e = record { goes = goes_same few; takes = λ w k q. never (sym e ∙ (r.finds w k q).there) }
+use-missing few r e = record { goes = goes_same few; takes = λ w k q. absurd (never-none (sym e ∙ (r.finds w k q).there)) }
 
-abbrev Looked : List ℕ → Used → ℕ → Type 0
-Looked rows u v = Tells v (look_pair u.section u.operand (pairs_held rows))
-
-is-there : {ds : List Decl} (rows : List ℕ) {u : Used} {x : Use} (b : Bool) → given (look_pair u.section u.operand (pairs_held rows)) ≡ b → Finds ds x u → is_there ds (pairs_held rows) x ≡ b
-is-there {ds} rows {u} {x} b e f =
-    ap (λ (i : ℕ). given (look_pair i (operand_row ds x) (pairs_held rows))) (sym f.section) ∙ (ap (λ (i : ℕ). given (look_pair u.section i (pairs_held rows))) (sym f.operand) ∙ e)
-
-pub use-again : {text rows signs : List ℕ} {n own at next v : ℕ} {u : Used} → count_of rows ≤ 8192 → made.UseRead text rows n next u → Looked rows u v → v < 65536
+pub use-again : {text rows signs : List ℕ} {n own at next : ℕ} {v : Option ℕ} {u : Used} → count_of rows ≤ 8192 → made.UseRead text rows n next (Some u) → Looked rows u v → is_some v ≡ true
     → UseDone text rows signs n own at next rows signs true
-use-again {rows = rows} few r t h = record { goes = goes_same few; takes = λ w k q. again refl refl refl (is-there rows true (tells-given t h) (r.finds w k q)) }
+use-again {rows = rows} few r t h = record { goes = goes_same few; takes = λ w k q. again refl refl refl (is-there rows true (answer-given _ t ∙ h) (r.finds w k q)) }
 
-pub use-full : {text rows signs : List ℕ} {n own at next v k : ℕ} {u : Used} → count_of rows ≤ 8192 → made.UseRead text rows n next u → Looked rows u v → 65536 ≤ v
+pub use-full : {text rows signs : List ℕ} {n own at next k : ℕ} {v : Option ℕ} {u : Used} → count_of rows ≤ 8192 → made.UseRead text rows n next (Some u) → Looked rows u v → is_some v ≡ false
     → k ≡ count_of rows → 8192 ≤ k → UseDone text rows signs n own at next rows signs false
-use-full {rows = rows} few r t h e l = record { goes = goes_same few; takes = λ w m q. full refl (omega (arith, e, l)) (is-there rows false (tells-not t h) (r.finds w m q)) }
+use-full {rows = rows} few r t h e l = record { goes = goes_same few; takes = λ w m q. full refl (omega (arith, e, l)) (is-there rows false (answer-given _ t ∙ h) (r.finds w m q)) }
 
-pub use-added : {text rows rows' signs signs' : List ℕ} {n own at next v k : ℕ} {u : Used} → made.UseRead text rows n next u → Looked rows u v → 65536 ≤ v
+pub use-added : {text rows rows' signs signs' : List ℕ} {n own at next k : ℕ} {v : Option ℕ} {u : Used} → made.UseRead text rows n next (Some u) → Looked rows u v → is_some v ≡ false
     → k ≡ count_of rows → k < 8192 → length signs ≡ 8192 → Adds rows rows' k u.section u.operand (own + k) → signs' ≡ set signs k at
     → UseDone text rows signs n own at next rows' signs' true
-use-added {text} {rows} {rows'} {signs} {signs'} {n} {own} {at} {next} {k = k} {u} r t h ek low size a es = record {
+use-added {text} {rows} {rows'} {signs} {signs'} {n} {own} {at} {next} {k = k} {u = u} r t h ek low size a es = record {
   goes = record {
     index = a.index;
     few = omega (arith, a.count, low);
@@ -106,12 +100,12 @@ use-added {text} {rows} {rows'} {signs} {signs'} {n} {own} {at} {next} {k = k} {
   };
   takes = λ w m q.
       let f = r.finds w m q in
-      added refl (a.pairs (sym ek) ∙ pair-as f) (omega (arith, a.count, ek)) here (is-there rows false (tells-not t h) f);
+      added refl (a.pairs (sym ek) ∙ pair-as f) (omega (arith, a.count, ek)) here (is-there rows false (answer-given _ t ∙ h) f);
 }
   where
-    pair-as : {x : Use} → Finds (held text rows n) x u
+    pair-as : {x : Use} → Finds (held text rows n) x (Some u)
         → pairs_held rows ++ (record { section = u.section; operand = u.operand; lowest = own + k } ∷ []) ≡ pairs_held rows ++ (pair_of (held text rows n) (own + count_of rows) x ∷ [])
-    pair-as f = rw (f.section, f.operand, ek) refl
+    pair-as g = let f = found-is g in rw (f.0, f.1, ek) refl
 
     here : get_or signs' (count_of rows) 0 ≡ at
     here = ap (λ (j : ℕ). get_or signs' j 0) (sym ek) ∙ (ap (λ (v : List ℕ). get_or v k 0) es ∙ get_or-set_same signs k at 0 (omega (arith, size, low)))

@@ -7,7 +7,7 @@ ghost use Rattle.partpairs.specs.Pairing.{UseRead, UseDone, WordDone, PairsFrom,
 ghost use Rattle.symbols.specs.Index.{Kept};
 
 use scanner::WordAt;
-use symbols::{NONE, PAIRS};
+use symbols::PAIRS;
 
 // A use takes four words, so four bytes or more, and a part has 32,768 bytes at most.
 pub const PART_PAIRS: usize = 8192;
@@ -52,12 +52,10 @@ fn take_use(
     requires { (at ≤ 65535) × (length rows.old ≡ 30209) × (length signs.old ≡ 8192) × Kept text.now rows.old n × (own ≤ 512) × (get_or rows.old 5632 0 ≤ 8192) }
     ensures { UseDone text.now rows.old signs.old n own at next rows.new signs.new result }
 {
-    let u = maker::read_use(text, rows, n, next);
-    if !u.there {
+    let Some(u) = maker::read_use(text, rows, n, next) else {
         return false;
-    }
-    let v = maker::look_pair(rows, u.section, u.operand);
-    if v < NONE {
+    };
+    if maker::look_pair(rows, u.section, u.operand).is_some() {
         return true;
     }
     let k = base::number(rows, PAIRS);
@@ -82,9 +80,10 @@ fn take_word(
     ensures { WordDone text.now rows.old signs.old n own at w rows.new signs.new result }
 {
     if w.kind == words::CARET {
-        return take_use(text, rows, signs, n, own, at, w.next);
+        take_use(text, rows, signs, n, own, at, w.next)
+    } else {
+        true
     }
-    true
 }
 
 // The words to `end`, or to the end of the text, or to a use that is not taken.
@@ -93,12 +92,10 @@ fn take_words(text: &[u8], rows: &mut [u16], signs: &mut [u16], n: usize, own: u
     ensures { PairsFrom text.now rows.old signs.old n own at rows.new signs.new }
 {
     let mut i = at;
+    // no range: a word says where the next begins
     loop {
         let w = scanner::next_word(text, i);
-        if w.kind < words::FIRST_WORD {
-            return;
-        }
-        if w.kind == words::END {
+        if w.kind < words::FIRST_WORD || w.kind == words::END {
             return;
         }
         if !take_word(text, rows, signs, n, own, i, w) {

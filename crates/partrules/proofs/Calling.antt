@@ -8,6 +8,7 @@ use native.Mathlib.Omega.{arith}
 use Prim.Native.Nat.{ℕ, zero, suc, ◌+◌, ◌-◌, ◌<◌, ◌≤◌}
 use borrow.Author.Tests.{eq-eqb, ne_eqb, ltb-false, le-ltb}
 use lib.Dec.{eqb, ltb}
+use mir.Val.{bool_byte}
 use lib.ListN.{length, take, drop, length-append}
 use Rattle.base.proofs.Laws.{neither, lt-or-le}
 use Rattle.std.specs.Prelude.{if◌then◌else◌}
@@ -134,12 +135,6 @@ body-calls {ws} {ws₁} {q = q} d t = acts-calls d ∙ ap (λ m. calls_all q ++ 
 
 -- A word of the text
 
-pub last-yes : (kind : ℕ) → kind ≡ 59 → true ≡ is_last kind
-last-yes kind e = rw (eq-eqb kind 59 e) refl
-
-pub last-no : (kind : ℕ) → (kind ≡ 59 → ⊥) → ltb kind 2 ≡ is_last kind
-last-no kind n = rw (ne_eqb kind 59 n) refl
-
 pub is_word : (kind : ℕ) → is_last kind ≡ false → 2 ≤ kind
 is_word kind e = ltb-false kind 2 (neither (eqb kind 59) (ltb kind 2) e).1
 
@@ -189,13 +184,13 @@ count-on {text} {at} {w} n k t N l e h =
 pub count-off : {text : List ℕ} {at : ℕ} {w : WordAt} (n t : ℕ) → Next text at w → is_last w.kind ≡ true → n + length (calls_from (words_at text at)) ≡ t → n ≡ t
 count-off {text} {at} {w} n t N l h = let a = ap length (calls-off N l) in omega (arith, a, h)
 
-pub sign-one : (kind : ℕ) → kind ≡ 64 → 1 ≡ signs kind
+pub sign-of : (kind n : ℕ) → n ≡ bool_byte (eqb kind 64) → n ≡ signs kind
 unfolding signs
-sign-one kind e = rw (eq-eqb kind 64 e) refl
-
-pub sign-none : (kind : ℕ) → (kind ≡ 64 → ⊥) → 0 ≡ signs kind
-unfolding signs
-sign-none kind n = rw (ne_eqb kind 64 n) refl
+sign-of kind n = go (eqb kind 64)
+  where
+    go : (b : Bool) → n ≡ bool_byte b → n ≡ (if b then 1 else 0)
+    go true e = e
+    go false e = e
 
 pub signs-few : (kind : ℕ) → signs kind ≤ 1
 unfolding signs

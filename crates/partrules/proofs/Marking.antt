@@ -7,9 +7,10 @@ use native.Mathlib.Numerals.{add-one}
 use native.Mathlib.Omega.{arith}
 use Prim.Native.Nat.{ℕ, zero, suc, ◌+◌, ◌-◌, ◌<◌, ◌≤◌}
 use borrow.Author.Tests.{lt-ltb, le-ltb}
-use lib.ListN.{length, get_or, take, drop, length-append}
+use lib.ListN.{length, get_or, drop, length-append}
 use lib.Seq.{drop-cons, get_or-append-add}
 use Rattle.base.proofs.Laws.{lt-or-le}
+use Rattle.std.proofs.lemmas.List.{drop_all}
 use Rattle.base.specs.Tree.{plain, cycle, choice, done, ◌▸◌, nil, alternative, absent, otherwise}
 use Rattle.calls.specs.Renumber.{renumber_plain, renumber_selector, renumber, renumbers, renumber_alts, renumber_other}
 use Rattle.cells.specs.Cells.{plain_cells, selector_cells, absent_cell, act_cells, acts_cells, alts_cells, other_cells}
@@ -162,21 +163,19 @@ module _ (to : ℕ → ℕ) where
   unfolding operand
   turned-copy s x t n i e = let c : is_call s.first ≡ false = sym i ∙ e in record { goes = λ cells. operand-turn s.first s.left x x cells n (rw c refl) }
 
-  -- The pass: what is left to turn from the cell k on, up to n
+  -- The pass: what is left to turn from the cell k on
 
-  abbrev pub rest : List ℕ → ℕ → ℕ → Pass → List ℕ
-  rest cells n k s = turn_from to s.first s.left (take (n - k) (drop k cells))
+  abbrev pub rest : List ℕ → ℕ → Pass → List ℕ
+  rest cells k s = turn_from to s.first s.left (drop k cells)
 
-  pub goes_on : (cells : List ℕ) (n k : ℕ) (s r : Pass) (x : ℕ) → k < n → n ≤ length cells → x ≡ get_or cells k 0 → Turned to s x r → rest cells n k s ≡ r.cell ∷ rest cells n (k + 1) r
-  goes_on cells n k s r x l m e t =
-      let z : n - k ≡ suc (n - (k + 1)) = omega arith in
-      let d : drop k cells ≡ x ∷ drop (k + 1) cells = drop-cons cells k 0 (omega arith) ∙ ap (λ y. y ∷ drop (suc k) cells) (sym e) ∙ ap (λ i. x ∷ drop i cells) (sym (add-one k)) in
-      let a : take (n - k) (drop k cells) ≡ x ∷ take (n - (k + 1)) (drop (k + 1) cells) = ap (λ i. take i (drop k cells)) z ∙ ap (take (suc (n - (k + 1)))) d in
-      ap (turn_from to s.first s.left) a ∙ t.goes (take (n - (k + 1)) (drop (k + 1) cells))
+  pub goes_on : (cells : List ℕ) (k : ℕ) (s r : Pass) (x : ℕ) → k < length cells → x ≡ get_or cells k 0 → Turned to s x r → rest cells k s ≡ r.cell ∷ rest cells (k + 1) r
+  goes_on cells k s r x l e t =
+      let d : drop k cells ≡ x ∷ drop (k + 1) cells = drop-cons cells k 0 l ∙ ap (λ y. y ∷ drop (suc k) cells) (sym e) ∙ ap (λ i. x ∷ drop i cells) (sym (add-one k)) in
+      ap (turn_from to s.first s.left) d ∙ t.goes (drop (k + 1) cells)
 
-  pub no_more : (cells : List ℕ) (n k : ℕ) (s : Pass) → n ≤ k → rest cells n k s ≡ []
+  pub no_more : (cells : List ℕ) (k : ℕ) (s : Pass) → length cells ≤ k → rest cells k s ≡ []
   unfolding turn_from
-  no_more cells n k s l = let z : n - k ≡ 0 = omega arith in ap (λ i. turn_from to s.first s.left (take i (drop k cells))) z
+  no_more cells k s l = ap (turn_from to s.first s.left) (drop_all k cells l)
 
 -- The mark of a number
 

@@ -1,12 +1,12 @@
 -- The rows of the rules before are those that are marked.
-use mathlib.Core.Bool.{Bool, true, false, ◌&&◌, ◌||◌, not}
+use mathlib.Core.Bool.{Bool, true, false, ◌||◌, not}
 use mathlib.Core.List.{List, [], ◌∷◌}
 use mathlib.Core.Option.{Option, none, some}
 use mathlib.Core.Path.{◌≡◌, refl, sym, ap, ◌∙◌}
 use native.Mathlib.Omega.{arith}
 use Prim.Native.Nat.{ℕ, zero, suc, ◌<◌, ◌≤◌}
-use borrow.Author.Tests.{lt-ltb, le-ltb, eq-eqb, ne_eqb, eqb-true, eqb-false}
-use lib.Dec.{eqb, ltb}
+use borrow.Author.Tests.{eq-eqb, ne_eqb, eqb-true, eqb-false}
+use lib.Dec.{eqb}
 use lib.ListN.{length, get_or, set}
 use lib.Seq.{set_out, get_or-set_same, get_or-set_other}
 use Rattle.base.proofs.Laws.{same_refl, same-eq}
@@ -14,7 +14,9 @@ use Rattle.base.specs.Common.{same, given}
 use Rattle.declarations.specs.Decls.{Decl, decl_of, index_of}
 use Rattle.maker.proofs.Taking.{row_at}
 use Rattle.names.specs.Understand.{is_one}
-use Rattle.symbols.specs.Search.{Tells, there, nowhere}
+use Rattle.std.specs.Prelude.{Some, None}
+use Rattle.symbols.proofs.Searches.{answer-some, answer-none}
+use Rattle.symbols.specs.Rows.{answer_of}
 use Rattle.partrules.specs.Opened.{marked, marking, SeenAre, taken_by}
 
 get_d_past : (l : List ℕ) (i : ℕ) → length l ≤ i → get_or l i 0 ≡ 0
@@ -22,46 +24,34 @@ get_d_past [] i h = refl
 get_d_past (a ∷ l) zero h = absurd (omega arith)
 get_d_past (a ∷ l) (suc i) h = get_d_past l i (omega arith)
 
-pub past-marks : (seen : List ℕ) (i : ℕ) → length seen ≤ i → false ≡ not (eqb (get_or seen i 0) 0)
+past-marks : (seen : List ℕ) (i : ℕ) → length seen ≤ i → false ≡ not (eqb (get_or seen i 0) 0)
 past-marks seen i h = rw (get_d_past seen i h) refl
-
-pub class-goes : (class : ℕ) (past : Bool) → 0 < class → past ≡ (ltb 0 class && past)
-class-goes class past h = rw (lt-ltb 0 class h) refl
-
-pub class-stays : (class : ℕ) (past : Bool) → class ≤ 0 → false ≡ (ltb 0 class && past)
-class-stays class past h = rw (le-ltb 0 class h) refl
 
 -- A name
 
-pub operation-taken : (ds : List Decl) (seen w : List ℕ) {r : ℕ} → Tells r (index_of 6 w 0 ds) → r < 65536 → true ≡ taken_by ds seen w
+pub operation-taken : (ds : List Decl) (seen w : List ℕ) → true ≡ given (index_of 6 w 0 ds) → true ≡ taken_by ds seen w
 unfolding taken_by
-operation-taken ds seen w {r} t h = go (index_of 6 w 0 ds) t
-  where
-    go : (o : Option ℕ) → Tells r o → true ≡ (given o || marked seen (index_of 7 w 0 ds))
-    go none (nowhere q) = absurd (omega (arith, q, h))
-    go (some j) q = refl
+operation-taken ds seen w e = rw (sym e) refl
 
-pub rule-taken : (ds : List Decl) (seen w : List ℕ) {r s : ℕ} {b : Bool} → length seen ≤ 65536 → Tells r (index_of 6 w 0 ds) → 65536 ≤ r → Tells s (index_of 7 w 0 ds) → b ≡ not (eqb (get_or seen s 0) 0) → b ≡ taken_by ds seen w
+pub rule-taken : (ds : List Decl) (seen w : List ℕ) {s : ℕ} {b : Bool} → false ≡ given (index_of 6 w 0 ds) → Some s ≡ answer_of (index_of 7 w 0 ds) → b ≡ not (eqb (get_or seen s 0) 0) → b ≡ taken_by ds seen w
 unfolding taken_by marked
-rule-taken ds seen w {r} {s} {b} l t h u e = go (index_of 6 w 0 ds) t
-  where
-    mark_of : (o : Option ℕ) → Tells s o → b ≡ marked seen o
-    mark_of none (nowhere q) = e ∙ sym (past-marks seen s (omega (arith, q, l)))
-    mark_of (some i) (there q k) = e ∙ ap (λ j. not (eqb (get_or seen j 0) 0)) q
+rule-taken ds seen w e f q = rw (sym e, answer-some (index_of 7 w 0 ds) f) q
 
-    go : (o : Option ℕ) → Tells r o → b ≡ (given o || marked seen (index_of 7 w 0 ds))
-    go none _ = mark_of (index_of 7 w 0 ds) u
-    go (some j) (there q k) = absurd (omega (arith, q, k, h))
+pub rule_free : (ds : List Decl) (seen w : List ℕ) → false ≡ given (index_of 6 w 0 ds) → None ≡ answer_of (index_of 7 w 0 ds) → false ≡ taken_by ds seen w
+unfolding taken_by marked
+rule_free ds seen w e f = rw (sym e, answer-none (index_of 7 w 0 ds) f) refl
 
-pub marks-row : (seen : List ℕ) (o : Option ℕ) {s : ℕ} → Tells s o → length seen ≤ 65536 → s < length seen → set seen s 1 ≡ marking seen o
+pub marks-row : (seen : List ℕ) (o : Option ℕ) {s : ℕ} → Some s ≡ answer_of o → set seen s 1 ≡ marking seen o
 unfolding marking
-marks-row seen none {s} (nowhere q) l h = absurd (omega (arith, q, l, h))
-marks-row seen (some i) {s} (there q k) l h = ap (λ j. set seen j 1) q
+marks-row seen o e = rw (answer-some o e) refl
 
-pub marks-none : (seen : List ℕ) (o : Option ℕ) {s : ℕ} → Tells s o → length seen ≤ s → seen ≡ marking seen o
+pub marks-past : (seen : List ℕ) (o : Option ℕ) {s : ℕ} → Some s ≡ answer_of o → length seen ≤ s → seen ≡ marking seen o
 unfolding marking
-marks-none seen none t h = refl
-marks-none seen (some i) {s} (there q k) h = sym (set_out seen i 1 (omega (arith, q, h)))
+marks-past seen o {s} e h = rw (answer-some o e) (sym (set_out seen s 1 h))
+
+pub marks-none : (seen : List ℕ) (o : Option ℕ) → None ≡ answer_of o → seen ≡ marking seen o
+unfolding marking
+marks-none seen o e = rw (answer-none o e) refl
 
 -- One rule more
 

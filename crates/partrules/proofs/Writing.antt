@@ -4,8 +4,7 @@ use mathlib.Core.Option.{Option, none, some}
 use mathlib.Core.Path.{◌≡◌, refl, sym, ap, ◌∙◌, subst}
 use native.Mathlib.Omega.{arith}
 use Prim.Native.Nat.{ℕ, zero, suc, ◌≤◌}
-use lib.ListN.{length, take}
-use lib.Seq.{length-take-le}
+use lib.ListN.{length}
 use Rattle.cells.specs.Cells.{acts_cells}
 use Rattle.grammar.specs.Derived.{Took, ActsIn, GivesIn, gives_none, gives_some, RuleIn, one_rule}
 use Rattle.parts.specs.Form.{name_words, type_words, body_cells, rule_words}
@@ -22,7 +21,7 @@ use Rattle.partrules.proofs.Calling.{body-calls}
 use Rattle.partrules.specs.Calls.{calls_from, called}
 use Rattle.partrules.specs.Marks.{mark_by, turn_from, turn_cells}
 use Rattle.partrules.specs.Words.{head_words, rule_here, TypePut, HeadPut, RulePut}
-use Rattle.partrules.specs.declared.Headed.{Headed}
+use Rattle.partrules.specs.declared.Spot.{Spot}
 
 -- the words of a name that the scanner found
 name-here : (text : List ℕ) (w : WordAt) (v : Word) (moved : ℕ) → v ≡ as_word text w → name_here text w.start w.len moved ≡ name_words (move_word (back moved) v)
@@ -31,7 +30,7 @@ name-here text w v moved e = ap (λ (x : Word). name_words (move_word (back move
 
 -- The type
 
-pub type-absent : {text object object' : List ℕ} {at moved c : ℕ} {g : WordAt} {h : Headed} → at ≤ length text → Next text at g → (g.kind ≡ 256 → ⊥)
+pub type-absent : {text object object' : List ℕ} {at moved c : ℕ} {g : WordAt} {h : Spot} → at ≤ length text → Next text at g → (g.kind ≡ 256 → ⊥)
     → Puts object c (0 ∷ []) object' h.count → h.at ≡ g.next → TypePut text at moved object c object' h
 unfolding type_words move_if
 type-absent {text} {object} {object'} {at} {moved} {c} {g} {h} inn N k p e = record { low = omega (arith, e, N.onto); high = omega (arith, e, N.high inn); done = go }
@@ -41,7 +40,7 @@ type-absent {text} {object} {object'} {at} {moved} {c} {g} {h} inn N k p e = rec
     go none colon ws₁ ws (gives_none _ q) t = ((took-here text at 58 g colon ws (omega arith) N (subst (λ l. Took 58 l colon ws) q t)).behind ∙ ap (words_at text) (sym e), p)
     go (some v) colon ws₁ ws (gives_some {sign = s} {ws₁ = ws₂} t _) u = absurd (k (took-kind text at 256 g s ws₂ N t))
 
-pub type-there : {text object object₁ object' : List ℕ} {at moved c c₁ : ℕ} {g w d : WordAt} {h : Headed} → at ≤ length text → Next text at g → g.kind ≡ 256 → Next text g.next w
+pub type-there : {text object object₁ object' : List ℕ} {at moved c c₁ : ℕ} {g w d : WordAt} {h : Spot} → at ≤ length text → Next text at g → g.kind ≡ 256 → Next text g.next w
     → Puts object c (1 ∷ []) object₁ c₁ → Puts object₁ c₁ (name_here text w.start w.len moved) object' h.count → Next text w.next d → h.at ≡ d.next
     → TypePut text at moved object c object' h
 unfolding type_words move_if
@@ -60,7 +59,7 @@ type-there {text} {object} {object₁} {object'} {at} {moved} {c} {c₁} {g} {w}
 
 -- The head
 
-pub head-put : {text object object₁ object' : List ℕ} {at moved c c₁ : ℕ} {w : WordAt} {h : Headed} → Next text at w → Puts object c (name_here text w.start w.len moved) object₁ c₁
+pub head-put : {text object object₁ object' : List ℕ} {at moved c c₁ : ℕ} {w : WordAt} {h : Spot} → Next text at w → Puts object c (name_here text w.start w.len moved) object₁ c₁
     → TypePut text w.next moved object₁ c₁ object' h → HeadPut text at moved object c object' h
 unfolding head_words
 head-put {text} {object} {object₁} {object'} {at} {moved} {c} {c₁} {w} {h} N p T = record { low = omega (arith, N.onto, T.low); high = T.high; done = go }
@@ -74,19 +73,18 @@ head-put {text} {object} {object₁} {object'} {at} {moved} {c} {c₁} {w} {h} N
 
 -- The whole
 
-pub rule-put : {text object o₁ o₂ o₃ o₄ o₅ : List ℕ} {at moved first c m : ℕ} (cells : List ℕ) (n : ℕ) {h : Headed} {c₂ c₃ c₄ c₅ : ℕ} → HeadPut text at moved object c o₁ h → m ≡ length (calls_from (words_at text h.at))
-    → Puts o₁ h.count (m ∷ []) o₂ c₂ → Puts o₂ c₂ (called moved (calls_from (words_at text h.at))) o₃ c₃ → Puts o₃ c₃ (n ∷ []) o₄ c₄ → n ≤ length cells
-    → Puts o₄ c₄ (turn_cells (mark_by first) (take n cells)) o₅ c₅ → RulePut text at moved first (take n cells) object c o₅ c₅
+pub rule-put : {text object o₁ o₂ o₃ o₄ o₅ : List ℕ} {at moved first c m : ℕ} (cells : List ℕ) {h : Spot} {c₂ c₃ c₄ c₅ : ℕ} → HeadPut text at moved object c o₁ h → m ≡ length (calls_from (words_at text h.at))
+    → Puts o₁ h.count (m ∷ []) o₂ c₂ → Puts o₂ c₂ (called moved (calls_from (words_at text h.at))) o₃ c₃ → Puts o₃ c₃ (length cells ∷ []) o₄ c₄
+    → Puts o₄ c₄ (turn_cells (mark_by first) cells) o₅ c₅ → RulePut text at moved first cells object c o₅ c₅
 unfolding rule_here
-rule-put {text} {object} {o₁} {o₂} {o₃} {o₄} {o₅} {at} {moved} {first} {c} {m} cells n {h} {c₂} {c₃} {c₄} {c₅} H e p q r l s = record { done = go }
+rule-put {text} {object} {o₁} {o₂} {o₃} {o₄} {o₅} {at} {moved} {first} {c} {m} cells {h} {c₂} {c₃} {c₄} {c₅} H e p q r s = record { done = go }
   where
-    go : (x : Rule) (ws : List Word) → RuleIn (words_at text at) ws x → Puts object c (rule_here moved first (take n cells) x) o₅ c₅
+    go : (x : Rule) (ws : List Word) → RuleIn (words_at text at) ws x → Puts object c (rule_here moved first cells x) o₅ c₅
     go x ws (one_rule {colon = colon} {ws₁ = ws₁} {ws₂ = ws₂} {ws₃ = ws₃} {ws₄ = ws₄} t g u a z) =
         let y = H.done x colon ws₁ ws₂ ws₃ t g u in
         let b : calls_from (words_at text h.at) ≡ calls_all x.body = body-calls (subst (λ k. ActsIn k ws₄ x.body) y.0 a) z in
         let many : m ≡ length (calls_all x.body) = e ∙ ap length b in
-        let size : n ≡ length (take n cells) = sym (length-take-le n cells l) in
-        puts_then y.1 (puts_then (puts-same (ap (λ k. k ∷ []) many) p) (puts_then (puts-same (ap (called moved) b) q) (puts_then (puts-same (ap (λ k. k ∷ []) size) r) s)))
+        puts_then y.1 (puts_then (puts-same (ap (λ k. k ∷ []) many) p) (puts_then (puts-same (ap (called moved) b) q) (puts_then r s)))
 
 -- They are the words that an object has
 

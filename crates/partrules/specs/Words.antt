@@ -10,7 +10,7 @@ use Rattle.syntax.specs.Written.{Rule}
 use Rattle.words.specs.Words.{Word, words_at}
 use Rattle.partrules.specs.Calls.{called}
 use Rattle.partrules.specs.Marks.{mark_by, turn_cells}
-use Rattle.partrules.specs.declared.Headed.{Headed}
+use Rattle.partrules.specs.declared.Spot.{Spot}
 
 -- a rule's name and its type, or 0
 unfoldable pub head_words : ℕ → Rule → List ℕ
@@ -23,14 +23,14 @@ rule_here moved first cells r =
     head_words moved r ++ (length cs ∷ (called moved cs ++ (length cells ∷ turn_cells (mark_by first) cells)))
 
 -- the type, from behind the rule's name, is written, and its colon is passed
-pub record TypePut (text : List ℕ) (at moved : ℕ) (object : List ℕ) (c : ℕ) (object' : List ℕ) (h : Headed) : Type 0 where
+pub record TypePut (text : List ℕ) (at moved : ℕ) (object : List ℕ) (c : ℕ) (object' : List ℕ) (h : Spot) : Type 0 where
   pub low : at ≤ h.at
   pub high : h.at ≤ length text
   pub done : (g : Option Word) (colon : Word) (ws₁ ws : List Word) → GivesIn (words_at text at) ws₁ g → Took 58 ws₁ colon ws
       → (ws ≡ words_at text h.at) × Puts object c (type_words (move_if (back moved) g)) object' h.count
 
 -- and so is the whole head
-pub record HeadPut (text : List ℕ) (at moved : ℕ) (object : List ℕ) (c : ℕ) (object' : List ℕ) (h : Headed) : Type 0 where
+pub record HeadPut (text : List ℕ) (at moved : ℕ) (object : List ℕ) (c : ℕ) (object' : List ℕ) (h : Spot) : Type 0 where
   pub low : at ≤ h.at
   pub high : h.at ≤ length text
   pub done : (r : Rule) (colon : Word) (ws₁ ws₂ ws : List Word) → Took 257 (words_at text at) r.rule ws₁ → GivesIn ws₁ ws₂ r.gives → Took 58 ws₂ colon ws

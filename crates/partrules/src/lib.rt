@@ -14,27 +14,19 @@ ghost use Rattle.partrules.specs.Marks.{mark_by, turn_cells, Turned};
 ghost use Rattle.partrules.specs.Opened.{marked, marking, taken_by, RuleRead, RuleDone, RulesDone};
 ghost use Rattle.partrules.specs.Words.{TypePut, HeadPut, RulePut};
 
-use base::wide;
 use resolver::{Done, Scope};
 use scanner::WordAt;
 
 // Where a pass over cells stands: the last first cell, how many cells are left behind it, and what the last cell became.
-#[derive(Clone, Copy)]
+#[derive(Clone, Copy, Debug, PartialEq, Eq)]
 pub struct Pass {
     pub first: u16,
     pub left: usize,
     pub cell: u16,
 }
 
-// A head that is written: the place behind its colon, and how many words there are.
-#[derive(Clone, Copy)]
-pub struct Headed {
-    pub at: usize,
-    pub count: usize,
-}
-
 // A part in the text at hand: how many declarations the rows hold, the number of its first pair, and how much further on it stands.
-#[derive(Clone, Copy)]
+#[derive(Clone, Copy, Debug, PartialEq, Eq)]
 pub struct Part {
     pub n: usize,
     pub first: usize,
@@ -42,7 +34,7 @@ pub struct Part {
 }
 
 // fault 0: there are `rules` rules, and `count` words. Else the fault's number and its word.
-#[derive(Clone, Copy)]
+#[derive(Clone, Copy, Debug, PartialEq, Eq)]
 pub struct Rules {
     pub fault: u16,
     pub at: usize,
@@ -52,7 +44,7 @@ pub struct Rules {
 }
 
 // A place in the text, and how many words there are.
-#[derive(Clone, Copy)]
+#[derive(Clone, Copy, Debug, PartialEq, Eq)]
 pub struct Spot {
     pub at: usize,
     pub count: usize,
@@ -63,11 +55,12 @@ fn mark_of(i: u16, first: usize) -> u16
     requires { 0 < first }
     ensures { result ≡ mark_by first i }
 {
-    let n = wide(i);
+    let n = usize::from(i);
     if n < first {
-        return 0;
+        0
+    } else {
+        (1 + (n - first)) as u16
     }
-    (1 + (n - first)) as u16
 }
 
 // The next cell, x.
@@ -76,45 +69,38 @@ fn turn(spot: Pass, x: u16, first: usize) -> Pass
     ensures { Turned (mark_by first) spot x result }
 {
     if spot.left == 0 {
-        let left = linker::count_behind(x);
         return Pass {
             first: x,
-            left,
+            left: linker::count_behind(x),
             cell: x,
         };
     }
-    let left = spot.left - 1;
-    if linker::is_call(spot.first) {
-        let cell = mark_of(x, first);
-        return Pass {
-            first: spot.first,
-            left,
-            cell,
-        };
-    }
+    let cell = if linker::is_call(spot.first) {
+        mark_of(x, first)
+    } else {
+        x
+    };
     Pass {
-        first: spot.first,
-        left,
-        cell: x,
+        left: spot.left - 1,
+        cell,
+        ..spot
     }
 }
 
-// The first n cells as words, with marks in place of the numbers of calls.
-pub fn put_marked(cells: &[u16], n: usize, first: usize, object: &mut [u8], c: usize) -> usize
-    requires { (n ≤ length cells.now) × (0 < first) }
-    ensures { Puts object.old c (turn_cells (mark_by first) (take n cells.now)) object.new result }
+// The cells as words, with marks in place of the numbers of calls.
+pub fn put_marked(cells: &[u16], first: usize, object: &mut [u8], c: usize) -> usize
+    requires { 0 < first }
+    ensures { Puts object.old c (turn_cells (mark_by first) cells.now) object.new result }
 {
     let mut m = partwriter::counted(object, c);
-    let mut k = 0;
     let mut spot = Pass {
         first: 0,
         left: 0,
         cell: 0,
     };
-    while k < n {
-        spot = turn(spot, cells[k], first);
+    for cell in cells {
+        spot = turn(spot, *cell, first);
         m = partwriter::put(object, m, spot.cell);
-        k += 1;
     }
     m
 }
@@ -125,17 +111,14 @@ pub fn put_marked(cells: &[u16], n: usize, first: usize, object: &mut [u8], c: u
 fn is_last(kind: u16) -> bool
     ensures { result ≡ is_last kind }
 {
-    if kind == words::SEMICOLON {
-        return true;
-    }
-    kind < words::FIRST_WORD
+    kind == words::SEMICOLON || kind < words::FIRST_WORD
 }
 
 // One for `@`.
 fn sign(kind: u16) -> usize
     ensures { result ≡ signs kind }
 {
-    if kind == words::AT { 1 } else { 0 }
+    usize::from(kind == words::AT)
 }
 
 // How many words stand after `@` from the place `at` on, up to the rule's `;`.
@@ -145,12 +128,13 @@ pub fn count_calls(text: &[u8], at: usize) -> usize
 {
     let mut p = at;
     let mut n = 0;
+    // no range: what is read says where the next begins
     loop {
         let w = scanner::next_word(text, p);
         if is_last(w.kind) {
             return n;
         }
-        n = n + sign(w.kind);
+        n += sign(w.kind);
         p = w.next;
     }
 }
@@ -161,10 +145,11 @@ fn put_call(text: &[u8], w: WordAt, moved: usize, object: &mut [u8], c: usize) -
     ensures { Puts object.old c (called moved (call_by w.kind (words_at text.now w.next))) object.new result }
 {
     if w.kind == words::AT {
-        let v = scanner::next_word(text, w.next);
-        return partwriter::put_name(object, c, text, v.start, v.len, moved);
+        let name = scanner::next_word(text, w.next);
+        partwriter::put_name(object, c, text, name, moved)
+    } else {
+        partwriter::counted(object, c)
     }
-    partwriter::counted(object, c)
 }
 
 // The words after `@` from the place `at` on, up to the rule's `;`.
@@ -174,6 +159,7 @@ pub fn put_calls(text: &[u8], at: usize, moved: usize, object: &mut [u8], c: usi
 {
     let mut p = at;
     let mut n = partwriter::counted(object, c);
+    // no range: what is read says where the next begins
     loop {
         let w = scanner::next_word(text, p);
         if is_last(w.kind) {
@@ -187,57 +173,50 @@ pub fn put_calls(text: &[u8], at: usize, moved: usize, object: &mut [u8], c: usi
 // One rule
 
 // The type of a rule, from behind its name: 0, or 1 and its name. Its colon is passed.
-fn put_type(text: &[u8], at: usize, moved: usize, object: &mut [u8], c: usize) -> Headed
+fn put_type(text: &[u8], at: usize, moved: usize, object: &mut [u8], c: usize) -> Spot
     requires { (at ≤ length text.now) × (length text.now < 65536) }
     ensures { TypePut text.now at moved object.old c object.new result }
 {
     let g = scanner::next_word(text, at);
     if g.kind != words::TWICE {
-        let n = partwriter::put(object, c, 0);
-        return Headed {
-            at: g.next,
-            count: n,
-        };
+        let count = partwriter::put(object, c, 0);
+        return Spot { at: g.next, count };
     }
     let w = scanner::next_word(text, g.next);
     let n = partwriter::put(object, c, 1);
-    let m = partwriter::put_name(object, n, text, w.start, w.len, moved);
+    let count = partwriter::put_name(object, n, text, w, moved);
     let d = scanner::next_word(text, w.next);
-    Headed {
-        at: d.next,
-        count: m,
-    }
+    Spot { at: d.next, count }
 }
 
 // The head of a rule: its name and its type.
-fn put_head(text: &[u8], at: usize, moved: usize, object: &mut [u8], c: usize) -> Headed
+fn put_head(text: &[u8], at: usize, moved: usize, object: &mut [u8], c: usize) -> Spot
     requires { (at ≤ length text.now) × (length text.now < 65536) }
     ensures { HeadPut text.now at moved object.old c object.new result }
 {
     let w = scanner::next_word(text, at);
-    let n = partwriter::put_name(object, c, text, w.start, w.len, moved);
+    let n = partwriter::put_name(object, c, text, w, moved);
     put_type(text, w.next, moved, object, n)
 }
 
-// The rule at the place `at`, whose cells are the first n: its name, its type, its calls, its cells with marks.
+// The rule at the place `at`, which has these cells: its name, its type, its calls, its cells with marks.
 pub fn put_rule(
     text: &[u8],
     at: usize,
     part: Part,
     cells: &[u16],
-    n: usize,
     object: &mut [u8],
     c: usize,
 ) -> usize
-    requires { (at ≤ length text.now) × (length text.now < 65536) × (n ≤ length cells.now) × (n < 65536) × (0 < part.first) }
-    ensures { RulePut text.now at part.moved part.first (take n cells.now) object.old c object.new result }
+    requires { (at ≤ length text.now) × (length text.now < 65536) × (length cells.now < 65536) × (0 < part.first) }
+    ensures { RulePut text.now at part.moved part.first cells.now object.old c object.new result }
 {
     let h = put_head(text, at, part.moved, object, c);
     let m = count_calls(text, h.at);
     let d = partwriter::put(object, h.count, m as u16);
     let e = put_calls(text, h.at, part.moved, object, d);
-    let f = partwriter::put(object, e, n as u16);
-    put_marked(cells, n, part.first, object, f)
+    let f = partwriter::put(object, e, cells.len() as u16);
+    put_marked(cells, part.first, object, f)
 }
 
 fn refused(fault: u16, at: usize, len: usize) -> Done
@@ -255,10 +234,7 @@ fn refused(fault: u16, at: usize, len: usize) -> Done
 fn is_marked(seen: &[u8], i: usize) -> bool
     ensures { result ≡ not (eqb (get_or seen.now i 0) 0) }
 {
-    if i < seen.len() {
-        return seen[i] != 0;
-    }
-    false
+    seen.get(i).copied().unwrap_or(0) != 0
 }
 
 // An operation has the name, or a rule of the part before.
@@ -266,19 +242,20 @@ fn is_taken(text: &[u8], rows: &[u16], n: usize, seen: &[u8], w: WordAt) -> bool
     requires { Kept text.now rows.now n × (length seen.now ≤ 65536) }
     ensures { result ≡ taken_by (held text.now rows.now n) seen.now (part text.now w.start w.len) }
 {
-    let o = symbols::find_row(text, rows, n, symbols::OPERATION, w.start, w.len);
-    if o < symbols::NONE {
+    if symbols::has_row(text, rows, n, symbols::OPERATION, w.start, w.len) {
         return true;
     }
-    let i = symbols::find_row(text, rows, n, symbols::RULE, w.start, w.len);
-    is_marked(seen, i)
+    match symbols::find_row(text, rows, n, symbols::RULE, w.start, w.len) {
+        Some(i) => is_marked(seen, i),
+        None => false,
+    }
 }
 
 // A choice rule that goes past its end.
 fn goes_past(class: usize, past: bool) -> bool
     ensures { result ≡ (ltb 0 class && past) }
 {
-    if 0 < class { past } else { false }
+    0 < class && past
 }
 
 // The rule at the place `at`, resolved: its cells from the start on.
@@ -321,9 +298,10 @@ fn mark(text: &[u8], rows: &[u16], n: usize, w: WordAt, seen: &mut [u8])
     requires { Kept text.now rows.now n × (length seen.old ≤ 65536) }
     ensures { seen.new ≡ marking seen.old (index_of 7 (part text.now w.start w.len) 0 (held text.now rows.now n)) }
 {
-    let i = symbols::find_row(text, rows, n, symbols::RULE, w.start, w.len);
-    if i < seen.len() {
-        seen[i] = 1;
+    if let Some(i) = symbols::find_row(text, rows, n, symbols::RULE, w.start, w.len) {
+        if i < seen.len() {
+            seen[i] = 1;
+        }
     }
 }
 
@@ -345,8 +323,8 @@ pub fn open_rule(
     if d.fault != 0 {
         return d;
     }
-    let size = base::least(d.count, cells.len());
-    let c = put_rule(text, at, part, cells, size, object, spot.count);
+    let size = d.count.min(cells.len());
+    let c = put_rule(text, at, part, &cells[..size], object, spot.count);
     let w = scanner::next_word(text, at);
     mark(text, rows, part.n, w, seen);
     Done {
@@ -398,6 +376,7 @@ pub fn open_rules(
 {
     let mut here = spot;
     let mut k: usize = 0;
+    // no range: what is read says where the next begins
     loop {
         let d = open_rule(text, rows, part, here, seen, cells, object);
         if d.fault != 0 {

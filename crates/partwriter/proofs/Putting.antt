@@ -1,14 +1,16 @@
 -- Laws of words appended to bytes.
-use mathlib.Core.List.{List, [], ◌∷◌, ◌++◌, append-nil}
+use mathlib.Core.List.{List, [], ◌∷◌, ◌++◌}
 use mathlib.Core.Path.{◌≡◌, refl, sym, ap, ◌∙◌}
 use Prim.Native.Nat.{ℕ, zero, suc, ◌+◌, ◌*◌, ◌-◌, ◌/◌, ◌%◌, ◌<◌, ◌≤◌, min}
 use native.Mathlib.Omega.{arith}
+use borrow.Rule.Slice.PartMut.{put_mid}
+use Rattle.std.proofs.lemmas.Slice.{drop-put_mid}
+use Rattle.std.proofs.lemmas.List.{length-append}
 use lib.ListN.{length, get_or, take, drop, set, replicate, length-set, length-take, length-drop, length-replicate}
-use lib.Seq.{sets, set_out, drop-set-lt, drop-cons, sets-eq, drop-length}
+use lib.Seq.{set_out, drop-set-lt}
 use Rattle.buffers.specs.Words.{put_word}
 use Rattle.machine.proofs.Bytes.{length-words_of}
 use Rattle.machine.specs.Bytes.{count, words_of}
-use native.Mathlib.Numerals.{add-one}
 use Rattle.parts.specs.Form.{packed, name_words}
 use Rattle.parts.specs.Moved.{move_word}
 use Rattle.resolver.proofs.Appending.{appends-then}
@@ -99,17 +101,6 @@ puts-same e h = rw (← e) h
 pub puts_first : {out out' xs : List ℕ} {c c' x y : ℕ} → x ≡ y → Puts out c (x ∷ xs) out' c' → Puts out c (y ∷ xs) out' c'
 puts_first e h = rw (← e) h
 
--- Bytes, a word each
-
-pub next-byte : (text : List ℕ) (end p x : ℕ) → p < end → end ≤ length text → x ≡ get_or text p 0 → take (end - p) (drop p text) ≡ x ∷ take (end - (p + 1)) (drop (p + 1) text)
-next-byte text end p x h k e =
-    let z : end - p ≡ suc (end - (p + 1)) = omega arith in
-    let d : drop p text ≡ x ∷ drop (p + 1) text = drop-cons text p 0 (omega arith) ∙ ap (λ y. y ∷ drop (suc p) text) (sym e) ∙ ap (λ i. x ∷ drop i text) (sym (add-one p)) in
-    ap (λ i. take i (drop p text)) z ∙ ap (take (suc (end - (p + 1)))) d
-
-pub no_byte : (text : List ℕ) (end p : ℕ) → end ≤ p → take (end - p) (drop p text) ≡ []
-no_byte text end p h = let z : end - p ≡ 0 = omega arith in ap (λ i. take i (drop p text)) z
-
 -- A name
 
 pub name-words : (text : List ℕ) (start len moved : ℕ) → start + len ≤ length text → name_here text start len moved ≡ (start - moved) ∷ len ∷ take len (drop start text)
@@ -144,32 +135,39 @@ no-packed (a ∷ text) (suc i) h = no-packed text i (omega arith)
 
 -- Zeros behind
 
-pub next-zero : (n i j : ℕ) → i < n → j ≡ i + 1 → ◌≡◌ {A = List ℕ} (replicate (n - i) 0) (0 ∷ replicate (n - j) 0)
-next-zero n i j h e = let z : n - i ≡ suc (n - j) = omega (arith, e) in ap (λ k. replicate k 0) z
+front-words : (c : ℕ) (s t : List ℕ) → c ≤ count s → words_of (take (2 * c) s ++ t) ≡ take c (words_of s) ++ words_of t
+unfolding words_of count
+front-words zero s t h = refl
+front-words (suc c) [] t h = absurd (omega arith)
+front-words (suc c) (x ∷ []) t h = absurd (omega arith)
+front-words (suc c) (x ∷ y ∷ s) t h =
+    let e : 2 * suc c ≡ suc (suc (2 * c)) = omega arith in
+    rw e (ap (λ ws. (x * 256 + y) ∷ ws) (front-words c s t (omega arith)))
 
-pub no_zero : (n i : ℕ) → n ≤ i → ◌≡◌ {A = List ℕ} (replicate (n - i) 0) []
-no_zero n i h = let z : n - i ≡ 0 = omega arith in ap (λ k. replicate k 0) z
+zero-words : (k : ℕ) (t : List ℕ) → length t < 2 → words_of (replicate (2 * k) 0 ++ t) ≡ replicate k 0
+unfolding words_of
+zero-words zero [] h = refl
+zero-words zero (x ∷ []) h = refl
+zero-words zero (x ∷ y ∷ t) h = absurd (omega arith)
+zero-words (suc k) t h =
+    let e : 2 * suc k ≡ suc (suc (2 * k)) = omega arith in
+    rw e (ap (λ ws. 0 ∷ ws) (zero-words k t h))
 
-pub zeros-behind : (l : List ℕ) (i : ℕ) → i ≤ length l → sets l i (replicate (length l - i) 0) ≡ take i l ++ replicate (length l - i) 0
-zeros-behind l i h =
-    let n = length-replicate {A = ℕ} (length l - i) 0 in
-    let e : i + length (replicate {A = ℕ} (length l - i) 0) ≡ length l = omega (arith, n) in
-    sets-eq (replicate (length l - i) 0) l i (omega (arith, n))
-    ∙ ap (λ k. take i l ++ replicate (length l - i) 0 ++ drop k l) e
-    ∙ ap (λ m. take i l ++ replicate (length l - i) 0 ++ m) (drop-length l)
-    ∙ append-nil (take i l ++ replicate (length l - i) 0)
-
-pub zeros-left : {out out' : List ℕ} {c n m : ℕ} → n ≡ count out → c ≤ n → Puts out c (replicate (n - c) 0) out' m → Leaves out (take c (words_of out) ++ replicate (count out - c) 0) out'
-zeros-left {out} {out'} {c} {n} {m} e h p =
-    let l = length-words_of out in
-    let f : n ≡ length (words_of out) = e ∙ sym l in
-    let z = zeros-behind (words_of out) c (omega (arith, f, h)) in
+-- the whole words from the c-th on, zeroed
+pub zeros-left : (out : List ℕ) (c n : ℕ) (zs : List ℕ) → c ≤ count out → n ≡ count out → zs ≡ replicate (length (take (2 * n - 2 * c) (drop (2 * c) out))) 0
+    → Leaves out (take c (words_of out) ++ replicate (count out - c) 0) (put_mid (2 * c) (2 * n - 2 * c) out zs)
+unfolding count
+zeros-left out c n zs h e z =
+    let m = length out / 2 in
+    let k : 2 * n - 2 * c ≡ 2 * (m - c) = omega (arith, e) in
+    let d = drop (2 * n - 2 * c) (drop (2 * c) out) in
+    let l : length d < 2 = omega (arith, e, length-drop (2 * n - 2 * c) (drop (2 * c) out), length-drop (2 * c) out) in
+    let j : length (take (2 * n - 2 * c) (drop (2 * c) out)) ≡ 2 * n - 2 * c = omega (arith, e, length-take (2 * n - 2 * c) (drop (2 * c) out), length-drop (2 * c) out) in
+    let g : zs ≡ replicate (2 * n - 2 * c) 0 = z ∙ ap (λ i. replicate i 0) j in
+    let y : length zs ≡ 2 * n - 2 * c = ap length g ∙ length-replicate {A = ℕ} (2 * n - 2 * c) 0 in
+    let f : zs ≡ replicate (2 * (m - c)) 0 = g ∙ ap (λ i. replicate i 0) k in
     record {
-      words = p.leaves.words ∙ ap (λ k. sets (words_of out) c (replicate (k - c) 0)) f ∙ z ∙ ap (λ k. take c (words_of out) ++ replicate (k - c) 0) l;
-      size = p.leaves.size;
-      odd = p.leaves.odd;
+      words = front-words c out (zs ++ d) h ∙ ap (λ ws. take c (words_of out) ++ ws) (ap (λ i. words_of (i ++ d)) f ∙ zero-words (m - c) d l);
+      size = omega (arith, e, y, length-append (take (2 * c) out) (zs ++ d), length-append zs d, length-take (2 * c) out, length-drop (2 * n - 2 * c) (drop (2 * c) out), length-drop (2 * c) out);
+      odd = drop-put_mid (2 * c) (2 * n - 2 * c) out zs (2 * m) (omega (arith, e)) (omega arith) y;
     }
-
--- nothing stands past the last byte
-pub past-byte : (text : List ℕ) (i x : ℕ) → length text ≤ i + 1 → x ≡ get_or text i 0 * 256 → x ≡ get_or text i 0 * 256 + get_or text (i + 1) 0
-past-byte text i x h e = let z = get_d_past text (i + 1) h in omega (arith, e, z)

@@ -1,18 +1,18 @@
 // An object's words, appended to lent bytes.
 #![tactic(auto)]
 
-ghost use Rattle.std.specs.Prelude.{List, [], ◌∷◌, ◌++◌, ◌≡◌, ◌+◌, ◌*◌, ◌-◌, ◌<◌, ◌≤◌, length, take, drop, set, get_or, replicate};
+ghost use Rattle.std.specs.Prelude.{List, [], ◌∷◌, ◌++◌, ◌≡◌, ◌+◌, ◌*◌, ◌-◌, ◌<◌, ◌≤◌, length, take, set, get_or, replicate};
 ghost use Rattle.machine.specs.Bytes.{count, words_of};
 ghost use Rattle.parts.specs.Form.{packed};
 ghost use Rattle.partwriter.specs.Put.{Leaves, Puts, name_here, front};
 
-use base::{byte_word, least};
+use scanner::WordAt;
 
 // `PO`, the first word of an object.
 const MARK: u16 = 20559;
 
 // What the front of an object tells: the bytes of its part, its rules and its pairs.
-#[derive(Clone, Copy)]
+#[derive(Clone, Copy, Debug, PartialEq, Eq)]
 pub struct Sizes {
     pub part: u16,
     pub rules: u16,
@@ -30,7 +30,7 @@ pub fn room(object: &[u8]) -> usize
 pub fn counted(object: &[u8], c: usize) -> usize
     ensures { Puts object.now c [] object.now result }
 {
-    least(c, room(object) + 1)
+    c.min(room(object) + 1)
 }
 
 // One more word. Past the end nothing is written, and the count stays one above the room.
@@ -40,9 +40,10 @@ pub fn put(object: &mut [u8], c: usize, x: u16) -> usize
     let n = room(object);
     if c < n {
         buffers::put_word(object, c, x);
-        return c + 1;
+        c + 1
+    } else {
+        n + 1
     }
-    n + 1
 }
 
 pub fn put_two(object: &mut [u8], c: usize, x: u16, y: u16) -> usize
@@ -52,45 +53,25 @@ pub fn put_two(object: &mut [u8], c: usize, x: u16, y: u16) -> usize
     put(object, n, y)
 }
 
-// The bytes from `start` on, a word each.
-pub fn put_bytes(object: &mut [u8], c: usize, text: &[u8], start: usize, len: usize) -> usize
-    requires { start + len ≤ length text.now }
-    ensures { Puts object.old c (take len (drop start text.now)) object.new result }
+// The bytes, a word each.
+pub fn put_bytes(object: &mut [u8], c: usize, bytes: &[u8]) -> usize
+    ensures { Puts object.old c bytes.now object.new result }
 {
-    let end = start + len;
-    let mut p = start;
     let mut n = counted(object, c);
-    while p < end {
-        n = put(object, n, byte_word(text[p]));
-        p += 1;
+    for byte in bytes {
+        n = put(object, n, u16::from(*byte));
     }
     n
 }
 
-// So many places back, and 0 where there are not so many.
-fn moved_back(start: usize, moved: usize) -> usize
-    ensures { result ≡ start - moved }
-{
-    if start < moved {
-        return 0;
-    }
-    start - moved
-}
-
 // The name that stands here: its place in the part, its length, its bytes.
-pub fn put_name(
-    object: &mut [u8],
-    c: usize,
-    text: &[u8],
-    start: usize,
-    len: usize,
-    moved: usize,
-) -> usize
-    requires { (start + len ≤ length text.now) × (length text.now < 65536) }
-    ensures { Puts object.old c (name_here text.now start len moved) object.new result }
+pub fn put_name(object: &mut [u8], c: usize, text: &[u8], name: WordAt, moved: usize) -> usize
+    requires { (name.start + name.len ≤ length text.now) × (length text.now < 65536) }
+    ensures { Puts object.old c (name_here text.now name.start name.len moved) object.new result }
 {
-    let n = put_two(object, c, moved_back(start, moved) as u16, len as u16);
-    put_bytes(object, n, text, start, len)
+    let place = name.start.saturating_sub(moved) as u16;
+    let n = put_two(object, c, place, name.len as u16);
+    put_bytes(object, n, &text[name.start..name.start + name.len])
 }
 
 // The byte at i and the next one as a word, 0 behind the last.
@@ -98,11 +79,8 @@ fn pair_at(common: &[u8], i: usize) -> u16
     requires { i < length common.now }
     ensures { result ≡ get_or common.now i 0 * 256 + get_or common.now (i + 1) 0 }
 {
-    let high = byte_word(common[i]) * 256;
-    if i + 1 < common.len() {
-        return high + byte_word(common[i + 1]);
-    }
-    high
+    let low = common.get(i + 1).copied().unwrap_or(0);
+    u16::from_be_bytes([common[i], low])
 }
 
 // The bytes, two a word.
@@ -110,10 +88,8 @@ pub fn put_packed(object: &mut [u8], c: usize, common: &[u8]) -> usize
     ensures { Puts object.old c (packed common.now) object.new result }
 {
     let mut n = counted(object, c);
-    let mut i = 0;
-    while i < common.len() {
-        n = put(object, n, pair_at(common, i));
-        i += 2;
+    for i in 0..common.len().div_ceil(2) {
+        n = put(object, n, pair_at(common, 2 * i));
     }
     n
 }
@@ -144,9 +120,6 @@ pub fn zero_from(object: &mut [u8], c: usize)
     requires { c ≤ count object.old }
     ensures { Leaves object.old (take c (words_of object.old) ++ replicate (count object.old - c) 0) object.new }
 {
-    let n = room(object);
-    let mut i = c;
-    while i < n {
-        i = put(object, i, 0);
-    }
+    let end = 2 * room(object);
+    object[2 * c..end].fill(0);
 }

@@ -2,15 +2,27 @@
 use mathlib.Core.Bool.{Bool, true, false, not}
 use mathlib.Core.List.{List}
 use mathlib.Core.Option.{Option}
+use mathlib.Core.Logic.{◌⊎◌, inl, inr}
 use mathlib.Core.Path.{◌≡◌, refl, sym, ◌∙◌}
-use Prim.Native.Nat.{ℕ, zero, suc, ◌+◌, ◌≤◌, ◌<◌, ◌-◌}
+use Prim.Native.Nat.{ℕ, zero, suc, ◌+◌, ◌≤◌, ◌<◌, ◌-◌, max}
+use Rattle.std.specs.Ordering.{ord_max}
+use Rattle.std.proofs.Common.{nat_cmp, rules}
 use native.Mathlib.Omega.{arith}
 use lib.Dec.{T, eqb, leb}
 use lib.ListN.{length}
-use borrow.Author.Tests.{ne_eqb, eq-eqb, lt-ltb, le-ltb, leb-true, leb-false}
+use borrow.Author.Tests.{ne_eqb, eq-eqb, lt-ltb, le-ltb, leb-true, leb-false, eqb-true, eqb-false}
 use Rattle.std.specs.Prelude.{if◌then◌else◌}
+use Rattle.base.specs.Faults.{fault_number}
+use Rattle.base.specs.declared.Fault.{Fault}
+use Rattle.base.specs.declared.Refusal.{Refusal}
+use Rattle.reader.specs.Counting.{Operates, Sections_read}
+use Rattle.reader.specs.declared.Seen.{Seen}
+use Rattle.reader.specs.declared.State.{State}
+use Rattle.syntax.specs.Sections.{Sections}
+use Rattle.syntax.specs.Written.{Operation}
+use Rattle.base.specs.declared.Fault.TheVariants.{NoWord, NotAllowed, Undeclared, Repeated, NotWanted, LabelRepeated, NoCycle, WrongReturn, OverLimit, Contradicts}
 use Rattle.base.specs.Tree.{nil, absent, alternative}
-use Rattle.reader.specs.Answers.{Brings, Faulty, Here, Holds, Tells, Told, failed, held, refusal, says, told, void, went}
+use Rattle.reader.specs.Answers.{Out, failing, Yields, Brings, Faulty, Here, Holds, Tells, Told, failed, held, refusal, says, told, void, went}
 use Rattle.reader.specs.Parts.{LeavesBoth, a_labelled, one_action, with_constant}
 use Rattle.scanner.proofs.WordLaws.{part_length}
 use Rattle.scanner.specs.Next.{as_word, Next}
@@ -18,7 +30,6 @@ use Rattle.syntax.specs.Actions.{closes, a_constant, actions, an_alternative, so
 use Rattle.syntax.specs.Reading.{Read, Reader, a_name, expect, fault, got, on◌then◌else◌, onward, over, pass, peek, refuse, short, within}
 use Rattle.syntax.specs.Written.{Acts, Choices, Constant}
 use Rattle.words.specs.Words.{Word, words_at}
-use Rattle.reader.specs.declared.Out.{Out}
 use Rattle.scanner.specs.declared.WordAt.{WordAt}
 
 pub says_on : (text : List ℕ) (r : Out) → r.fault ≡ 0 → says text r ≡ went (words_at text r.at)
@@ -353,3 +364,42 @@ pub alternative-goes : (k room left : ℕ) (inner : Reader Acts) (more : ℕ →
     → Brings (LeavesBoth room left) (a_labelled k room inner (words_at text at)) text r → r.fault ≡ 0
     → Tells (afterwards more left (words_at text r.at)) text s → Tells (an_alternative k room inner more (words_at text at)) text s
 alternative-goes k room left inner more {text} at b h t = rw (in_parts k room inner more (words_at text at)) (goes-from _ b h (λ a e. ends _ (rw e t)))
+
+-- a fault has a number
+pub not_none : (f : Fault) → fault_number f ≡ 0 → ⊥
+not_none NoWord e = omega arith
+not_none NotAllowed e = omega arith
+not_none Undeclared e = omega arith
+not_none Repeated e = omega arith
+not_none NotWanted e = omega arith
+not_none LabelRepeated e = omega arith
+not_none NoCycle e = omega arith
+not_none WrongReturn e = omega arith
+not_none OverLimit e = omega arith
+not_none Contradicts e = omega arith
+
+-- a fault is one whatever is said of the value
+pub yields-none : {A : Type 0} {P Q : A → Type 0} {text : List ℕ} {at from : ℕ} {m : ℕ → Reader A} (e : Refusal) → Yields P text at from m (failing e) → Yields Q text at from m (failing e)
+yields-none e y = record { low = y.low; high = y.high; past = y.past; brings = λ k h. faulty (y.brings k h).tells (not_none e.fault) }
+
+pub operates-none : {P Q : List Operation → Type 0} {text : List ℕ} {at left : ℕ} {seen : Seen} (e : Refusal) → Operates P text at left seen (failing e) → Operates Q text at left seen (failing e)
+operates-none e y = record { low = y.low; high = y.high; past = y.past; brings = λ is z k h. faulty (y.brings is z k h).tells (not_none e.fault) }
+
+pub sections-none : {P Q : Sections → Type 0} {text : List ℕ} {at : ℕ} {t : State} (e : Refusal) → Sections_read P text at t (failing e) → Sections_read Q text at t (failing e)
+sections-none e y = record { low = y.low; high = y.high; brings = λ s q k h. faulty (y.brings s q k h).tells (not_none e.fault) }
+
+-- what `max` gives
+pub max-is : (a b : ℕ) → ord_max nat_cmp a b ≡ max a b
+max-is a b = search rules
+
+pub closes-either : (k : ℕ) → (k ≡ 59) ⊎ (k ≡ 93) → closes k ≡ true
+unfolding closes
+closes-either k (inl e) = rw e refl
+closes-either k (inr e) = rw e refl
+
+pub closes-both : (k : ℕ) → 124 ≤ k → k ≤ 125 → closes k ≡ true
+unfolding closes
+closes-both k h g = go (eqb k 124) refl where
+  go : (t : Bool) → eqb k 124 ≡ t → closes k ≡ true
+  go true e = rw (eqb-true k 124 e) refl
+  go false e = let z : k ≡ 125 = omega (arith, eqb-false k 124 e) in rw z refl

@@ -14,7 +14,7 @@ use borrow.Author.Tests.{leb-false, ne_eqb, lt-leb, le-leb, lt-ltb, le-ltb, eq-e
 use Rattle.std.specs.Prelude.{if◌then◌else◌}
 use Rattle.base.specs.Common.{given, bytes, same}
 use Rattle.reader.proofs.Laws.{at_word, ends_as, ends_with, faults, faulty, goes-as, stops, gives-with, no, no-with, overs, passes-with, says-off, says_on, shorts, word-length, yes-with, one-or-two-not, refuses, gives}
-use Rattle.reader.specs.Answers.{Brings, Faulty, Here, Holds, Tells, failed, held, told, void, went, refusal}
+use Rattle.reader.specs.Answers.{Out, Brings, Faulty, Here, Holds, Tells, failed, held, told, void, went, refusal}
 use Rattle.reader.specs.Counting.{Adds, Decides, Kinds, count_of, told_kind, full_in, listed, one_more, wrong, Entered, Operated, Keeps, ending, fine, NumberOf}
 use Rattle.scanner.proofs.WordLaws.{part_at, part_length}
 use Rattle.scanner.specs.Next.{as_word}
@@ -26,7 +26,6 @@ use Rattle.syntax.specs.Written.{Entry, Section, both, Operation, errors, inputs
 use Rattle.words.specs.Words.{Word, words_at, value, words}
 use Rattle.reader.specs.declared.Ahead.{Ahead}
 use Rattle.reader.specs.declared.State.{State}
-use Rattle.reader.specs.declared.Out.{Out}
 use Rattle.reader.specs.declared.Seen.{Seen}
 use Rattle.scanner.specs.declared.WordAt.{WordAt}
 

@@ -10,10 +10,9 @@ use borrow.Author.Tests.{eqb-true, lt-ltb, le-ltb}
 use Rattle.std.specs.Prelude.{if◌then◌else◌}
 use Rattle.reader.proofs.Laws.{faulty, says_on}
 use Rattle.reader.proofs.SectionLaws.{assoc, decides-off, ends-whole}
-use Rattle.reader.specs.Answers.{Brings, Here, Holds, Tells, held, told, void, went}
+use Rattle.reader.specs.Answers.{Out, Brings, Here, Holds, Tells, held, told, void, went}
 use Rattle.reader.specs.Counting.{Decides, ending, fine, wrong}
 use Rattle.reader.specs.Texts.{Listed, Settles, unless_long, up_to_end}
-use Rattle.reader.specs.declared.Out.{Out}
 use Rattle.scanner.proofs.Joined.{joined, moved, words-moved}
 use Rattle.scanner.specs.Next.{as_word}
 use Rattle.scanner.specs.declared.WordAt.{WordAt}

@@ -1,6 +1,8 @@
 -- What the code's answers say of the definitions.
 use Rattle.std.specs.Prelude.{◌≡◌, List, [], ◌∷◌, ℕ, ◌+◌, ◌≤◌, ◌<◌, eqb, length, if◌then◌else◌}
-use Rattle.reader.specs.declared.Out.{Out}
+use Rattle.std.specs.Prelude.{Result, Ok, Err}
+use Rattle.base.specs.Faults.{fault_number}
+use Rattle.base.specs.declared.Refusal.{Refusal}
 use Rattle.scanner.specs.Next.{as_word}
 use Rattle.scanner.specs.declared.WordAt.{WordAt}
 use Rattle.syntax.specs.Reading.{Read, Reader, got, fault, peek}
@@ -17,6 +19,30 @@ pub record Here (text : List ℕ) (at : ℕ) (w : WordAt) : Type 0 where
   pub inside : w.start + w.len ≤ length text
   pub high : w.next ≤ length text
 
+-- an answer of the code but for its value: fault 0 and the place up to which it read; or the fault, the place and the length of its word
+pub record Out : Type 0 where
+  pub fault : ℕ
+  pub at : ℕ
+  pub len : ℕ
+
+abbrev pub failing : Refusal → Out
+failing e = record { fault = fault_number e.fault; at = e.at; len = e.len }
+
+-- of a function that gives a place
+abbrev pub out : Result ℕ Refusal → Out
+out (Ok at) = record { fault = 0; at = at; len = 0 }
+out (Err e) = failing e
+
+-- of one that gives more, where this is its place
+abbrev pub out_at : {X : Type 0} → (X → ℕ) → Result X Refusal → Out
+out_at place (Ok x) = record { fault = 0; at = place x; len = 0 }
+out_at place (Err e) = failing e
+
+-- of one that gives nothing
+abbrev pub done : Result (Unit {0}) Refusal → Out
+done (Ok x) = record { fault = 0; at = 0; len = 0 }
+done (Err e) = failing e
+
 -- a reading but for its value: the words left, or a fault with its word's start and length
 pub data Told : Type 0 where
   went : List Word → Told
@@ -26,7 +52,7 @@ abbrev pub told : {A : Type 0} → Read A → Told
 told (got a ws) = went ws
 told (fault n w) = failed n w.start (length w.text)
 
--- what an answer of the code says: fault 0, read up to the place `at`; or the fault and its word
+-- what an answer of the code says
 unfoldable pub says : List ℕ → Out → Told
 says text r = if eqb r.fault 0 then went (words_at text r.at) else failed r.fault r.at r.len
 

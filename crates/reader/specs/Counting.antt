@@ -2,11 +2,15 @@
 use Rattle.std.specs.Prelude.{◌≡◌, Bool, true, false, List, [], ◌∷◌, ℕ, ◌+◌, ◌-◌, ◌≤◌, ◌<◌, leb, length, if◌then◌else◌}
 use Rattle.std.proofs.Math.Option.{Option, none, some}
 use Prim.Native.Char.{code}
-use Rattle.reader.specs.Answers.{Brings, Reads, Moves, Yields}
+use Rattle.std.specs.Prelude.{Result, Ok, IfOk}
+use Rattle.base.specs.declared.Refusal.{Refusal}
+use Rattle.reader.specs.Answers.{Out, out, out_at, Brings, Reads, Moves, Yields}
 use Rattle.reader.specs.declared.Added.{Added}
+use Rattle.reader.specs.declared.Counted.{Counted}
+use Rattle.reader.specs.declared.Entries.{Entries}
+use Rattle.reader.specs.declared.Operations.{Operations}
 use Rattle.reader.specs.declared.Ahead.{Ahead}
 use Rattle.reader.specs.declared.Sectioned.{Sectioned}
-use Rattle.reader.specs.declared.Out.{Out}
 use Rattle.reader.specs.declared.Seen.{Seen}
 use Rattle.reader.specs.declared.State.{State}
 use Rattle.reader.specs.declared.Valued.{Valued}
@@ -28,19 +32,18 @@ pub record NumberOf (digits : List ℕ) (r : ℕ) : Type 0 where
   pub exact : r ≤ 65535 → value 0 digits ≡ r
   pub past : 65535 < r → 65535 < value 0 digits
 
-pub record ANumber (text : List ℕ) (at : ℕ) (r : Valued) : Type 0 where
-  pub yields : Yields (λ n. n ≡ r.value) text at at (λ _. a_number) r.out
-  pub small : r.value ≤ 65535
+pub record ANumber (text : List ℕ) (at : ℕ) (r : Result Valued Refusal) : Type 0 where
+  pub yields : Yields (λ n. IfOk r (λ v. n ≡ v.value)) text at at (λ _. a_number) (out_at (λ v. v.at) r)
+  pub small : IfOk r (λ v. v.value ≤ 65535)
 
 -- a reader that has no fault
-pub record Sure {A : Type 0} (text : List ℕ) (at : ℕ) (m : Reader A) (r : Out) : Type 0 where
-  pub reads : Reads text at at (λ _. m) r
-  pub sure : r.fault ≡ 0
+abbrev pub Sure : {A : Type 0} → List ℕ → ℕ → Reader A → ℕ → Type 0
+Sure text at m r = Reads text at at (λ _. m) (out (Ok r))
 
-pub record AnEntry (text : List ℕ) (at left : ℕ) (strings : Bool) (v : ℕ) (r : Valued) : Type 0 where
-  pub yields : Yields (λ (e : Entry). e.value ≡ r.value) text at at (λ _. an_entry left strings v) r.out
-  pub some : r.out.fault ≡ 0 → 0 < left
-  pub small : r.value ≤ 65535
+pub record AnEntry (text : List ℕ) (at left : ℕ) (strings : Bool) (v : ℕ) (r : Result Valued Refusal) : Type 0 where
+  pub yields : Yields (λ (e : Entry). IfOk r (λ v. e.value ≡ v.value)) text at at (λ _. an_entry left strings v) (out_at (λ v. v.at) r)
+  pub some : (out_at (λ v. v.at) r).fault ≡ 0 → 0 < left
+  pub small : IfOk r (λ v. v.value ≤ 65535)
 
 -- entries leave n names of `left`, and t is one above the greatest of their values and what `top` is one above
 pub record Entered (left top n t : ℕ) (es : List Entry) : Type 0 where
@@ -50,6 +53,12 @@ pub record Entered (left top n t : ℕ) (es : List Entry) : Type 0 where
 -- a colon and entries
 unfoldable pub listed : ℕ → ℕ → Bool → ℕ → Reader (List Entry)
 listed k left strings v = do expect (code ":"); entries k left strings v
+
+abbrev pub SomeEntries : List ℕ → ℕ → ℕ → Bool → ℕ → Result Entries Refusal → Type 0
+SomeEntries text at left strings v r = Yields (λ es. IfOk r (λ e. Entered left 0 e.left e.top es)) text at at (λ k. entries k left strings v) (out_at (λ e. e.at) r)
+
+abbrev pub ListedEntries : List ℕ → ℕ → ℕ → Bool → ℕ → Result Entries Refusal → Type 0
+ListedEntries text at left strings v r = Yields (λ es. IfOk r (λ e. Entered left 0 e.left e.top es)) text at at (λ k. listed k left strings v) (out_at (λ e. e.at) r)
 
 -- Operations
 
@@ -88,23 +97,28 @@ told_kind a = if a.known then some (first_of a.takes a.gives) else none
 unfoldable pub full_in : Seen → Ahead → Bool
 full_in s a = if a.known then leb 256 (count_of s a.takes a.gives) else false
 
-pub record AnOperation (text : List ℕ) (at left : ℕ) (seen : Seen) (r : Added) : Type 0 where
-  pub low : at ≤ r.out.at
-  pub high : r.out.at ≤ length text
-  pub past : r.out.fault ≡ 0 → at < r.out.at
-  pub some : r.out.fault ≡ 0 → 0 < left
-  pub brings : (is : List ℕ) → Kinds is seen → Brings (λ o. Adds (o.instruction ∷ []) seen r.seen) (an_operation left is (words_at text at)) text r.out
+pub record AnOperation (text : List ℕ) (at left : ℕ) (seen : Seen) (r : Result Added Refusal) : Type 0 where
+  pub low : at ≤ (out_at (λ a. a.at) r).at
+  pub high : (out_at (λ a. a.at) r).at ≤ length text
+  pub past : (out_at (λ a. a.at) r).fault ≡ 0 → at < (out_at (λ a. a.at) r).at
+  pub some : (out_at (λ a. a.at) r).fault ≡ 0 → 0 < left
+  pub brings : (is : List ℕ) → Kinds is seen
+      → Brings (λ o. IfOk r (λ a. Adds (o.instruction ∷ []) seen a.seen)) (an_operation left is (words_at text at)) text (out_at (λ a. a.at) r)
 
 -- operations leave n names of `left`, and the counts t of the counts s
 pub record Operated (left n : ℕ) (s t : Seen) (os : List Operation) : Type 0 where
   pub less : left - length os ≡ n
   pub adds : Adds (instructions os) s t
 
-pub record SomeOperations (text : List ℕ) (at left : ℕ) (seen : Seen) (o : Out) (n : ℕ) (t : Seen) : Type 0 where
+-- what is read has the property
+pub record Operates (P : List Operation → Type 0) (text : List ℕ) (at left : ℕ) (seen : Seen) (o : Out) : Type 0 where
   pub low : at ≤ o.at
   pub high : o.at ≤ length text
   pub past : o.fault ≡ 0 → at < o.at
-  pub brings : (is : List ℕ) → Kinds is seen → (k : ℕ) → length text < at + k → Brings (Operated left n seen t) (some_operations k left is (words_at text at)) text o
+  pub brings : (is : List ℕ) → Kinds is seen → (k : ℕ) → length text < at + k → Brings P (some_operations k left is (words_at text at)) text o
+
+abbrev pub SomeOperations : List ℕ → ℕ → ℕ → Seen → Result Operations Refusal → Type 0
+SomeOperations text at left seen r = Operates (λ os. IfOk r (λ o. Operated left o.left seen o.seen os)) text at left seen (out_at (λ o. o.at) r)
 
 -- Sections
 
@@ -127,18 +141,21 @@ pub record Keeps (s : Sofar) (t : State) : Type 0 where
   pub kinds : Kinds s.seen t.seen
 
 -- a section was read: its state is that after it
-pub record ASection (text : List ℕ) (at from : ℕ) (m : ℕ → Sofar → Reader Section) (t : State) (r : Sectioned) : Type 0 where
-  pub low : at ≤ r.out.at
-  pub high : r.out.at ≤ length text
-  pub past : r.out.fault ≡ 0 → at < r.out.at
+pub record ASection (text : List ℕ) (at from : ℕ) (m : ℕ → Sofar → Reader Section) (t : State) (r : Result Sectioned Refusal) : Type 0 where
+  pub low : at ≤ (out_at (λ x. x.at) r).at
+  pub high : (out_at (λ x. x.at) r).at ≤ length text
+  pub past : (out_at (λ x. x.at) r).fault ≡ 0 → at < (out_at (λ x. x.at) r).at
   pub brings : (s : Sofar) → Keeps s t → (k : ℕ) → length text < from + k
-      → Brings (λ x. Keeps (after s x) r.state) (m k s (words_at text at)) text r.out
+      → Brings (λ x. IfOk r (λ y. Keeps (after s x) y.state)) (m k s (words_at text at)) text (out_at (λ x. x.at) r)
 
-pub record SomeSections (text : List ℕ) (at : ℕ) (t : State) (o : Out) (left : ℕ) : Type 0 where
+-- what is read has the property
+pub record Sections_read (P : Sections → Type 0) (text : List ℕ) (at : ℕ) (t : State) (o : Out) : Type 0 where
   pub low : at ≤ o.at
   pub high : o.at ≤ length text
-  pub brings : (s : Sofar) → Keeps s t → (k : ℕ) → length text < at + k
-      → Brings (λ (x : Sections). x.left ≡ left) (some_sections k s (words_at text at)) text o
+  pub brings : (s : Sofar) → Keeps s t → (k : ℕ) → length text < at + k → Brings P (some_sections k s (words_at text at)) text o
+
+abbrev pub SomeSections : List ℕ → ℕ → State → Result Counted Refusal → Type 0
+SomeSections text at t r = Sections_read (λ x. IfOk r (λ c. x.left ≡ c.room)) text at t (out_at (λ c. c.at) r)
 
 -- Rules
 

@@ -2,8 +2,10 @@
 use Rattle.std.specs.Prelude.{◌≡◌, List, ℕ, ◌+◌, ◌-◌, ◌≤◌, ◌<◌, length}
 use Rattle.std.proofs.Math.Option.{Option}
 use Prim.Native.Char.{code}
-use Rattle.reader.specs.Answers.{Tells, Reads}
-use Rattle.reader.specs.declared.Out.{Out}
+use Rattle.std.specs.Prelude.{Result, IfOk}
+use Rattle.base.specs.declared.Refusal.{Refusal}
+use Rattle.reader.specs.Answers.{Out, out_at, Tells, Reads, Yields}
+use Rattle.reader.specs.declared.Counted.{Counted}
 use Rattle.syntax.specs.Actions.{a_constant, a_ranked, a_label, some_labels, an_action, actions, alternatives}
 use Rattle.syntax.specs.Reading.{Reader, ◌>>=◌, ◌>>◌, pure, refuse, expect, a_name}
 use Rattle.syntax.specs.Written.{Constant, Act, Acts}
@@ -41,3 +43,9 @@ Leaves room left ls = room - length ls ≡ left
 
 abbrev pub LeavesBoth : ℕ → ℕ → List Word × Acts → Type 0
 LeavesBoth room left p = room - length p.0 ≡ left
+
+abbrev pub SomeLabels : List ℕ → ℕ → ℕ → Result Counted Refusal → Type 0
+SomeLabels text at room r = Yields (λ ls. IfOk r (λ c. Leaves room c.room ls)) text at (at + 1) (λ k. some_labels k room) (out_at (λ c. c.at) r)
+
+abbrev pub ALabelled : List ℕ → ℕ → ℕ → ℕ → Result Counted Refusal → Type 0
+ALabelled text at room left r = Yields (λ p. IfOk r (λ c. LeavesBoth room c.room p)) text at (at + 1) (λ k. a_labelled k room (actions k left)) (out_at (λ c. c.at) r)

@@ -1,9 +1,10 @@
 -- What the functions that read a common part and a further part promise.
 use Rattle.std.specs.Prelude.{◌≡◌, List, ◌∷◌, ℕ, ◌+◌, ◌≤◌, ◌<◌, min, length, if◌then◌else◌}
-use Rattle.reader.specs.Answers.{Brings, Holds, Moves}
+use Rattle.std.specs.Prelude.{Result, IfOk}
+use Rattle.base.specs.declared.Refusal.{Refusal}
+use Rattle.reader.specs.Answers.{Out, out, out_at, Brings, Holds, Moves}
 use Rattle.reader.specs.Counting.{Decides}
 use Rattle.reader.specs.declared.Counted.{Counted}
-use Rattle.reader.specs.declared.Out.{Out}
 use Rattle.syntax.specs.Parse.{end_of, some_rules}
 use Rattle.syntax.specs.Reading.{Read, got, fault, Reader, ◌>>=◌, ◌>>◌, pure, expect}
 use Rattle.syntax.specs.Sections.{nothing, some_sections}
@@ -24,9 +25,9 @@ up_to_end k = do
   hs ← some_heads k (min 128 s.left)
   pure (record { sections = s.sections; left = s.left; listed = hs })
 
-pub record Shares (text : List ℕ) (r : Counted) : Type 0 where
-  pub high : r.out.at ≤ length text
-  pub brings : Brings (λ (c : Common). c.left ≡ r.room) (up_to_end (length text + 1) (words text)) text r.out
+pub record Shares (text : List ℕ) (r : Result Counted Refusal) : Type 0 where
+  pub high : (out_at (λ c. c.at) r).at ≤ length text
+  pub brings : Brings (λ (c : Common). IfOk r (λ n. c.left ≡ n.room)) (up_to_end (length text + 1) (words text)) text (out_at (λ c. c.at) r)
 
 -- the answer r decides the reading m, and what is read has the property
 pub record Settles {A : Type 0} (P : A → Type 0) (r : Out) (m : Read A) : Type 0 where
@@ -51,6 +52,13 @@ pub record RulesAt (text : List ℕ) (left at : ℕ) (rs : List Rule) : Type 0 w
   pub first : words text ≡ keyword ∷ words_at text at
   pub rest : List Word
   pub reads : some_rules (length text + 1) (min 128 left) (words_at text at) ≡ got rs rest
+
+-- what `check_common` and `check_part` promise, of these readings
+abbrev pub SettlesCommon : List ℕ → Result Counted Refusal → Read Common → Type 0
+SettlesCommon text r m = Settles (λ c. IfOk r (λ n. Listed text n.at n.room c)) (out_at (λ n. n.at) r) m
+
+abbrev pub SettlesPart : List ℕ → ℕ → Result ℕ Refusal → Read (List Rule) → Type 0
+SettlesPart text left r m = Settles (λ rs. IfOk r (λ at. RulesAt text left at rs)) (out r) m
 
 -- "Text over 32,768 bytes is 9 before all else", as in `parse`
 unfoldable pub unless_long : {A : Type 0} → List ℕ → Read A → Read A

@@ -4,50 +4,44 @@
 ghost use Rattle.std.specs.Prelude.{List, ◌≡◌, ℕ, ◌+◌, ◌-◌, ◌≤◌, ◌<◌, max, min, length, take, drop, eqb, ◌&&◌};
 ghost use Rattle.syntax.specs.Actions.{a_constant, a_value, a_plain, a_selector, some_labels, closes, a_cycle, a_choice, an_otherwise, actions, alternatives};
 ghost use Rattle.syntax.specs.Reading.{expect, a_name, name_or_string, optional};
-ghost use Rattle.reader.specs.Answers.{Here, Reads, Moves, Yields, Faulty, refusal};
-ghost use Rattle.reader.specs.Parts.{with_constant, one_action, a_labelled, OneLabel, Leaves, LeavesBoth, ARanked};
-ghost use Rattle.reader.specs.Texts.{AHead, Shares, Settles, Listed, RulesAt, unless_long};
-ghost use Rattle.reader.specs.Counting.{OneName, NumberOf, ANumber, Sure, AnEntry, Entered, listed, count_of, one_more, told_kind, full_in, AnOperation, SomeOperations, ASection, output_section, error_section, type_section, SomeSections, ARule, ending, Decides, Keeps};
+ghost use Rattle.base.specs.Faults.{fault_number};
+ghost use Rattle.reader.specs.Answers.{Here, Reads, Moves, Faulty, refusal, out, done, failing};
+ghost use Rattle.reader.specs.Parts.{with_constant, one_action, OneLabel, SomeLabels, ALabelled, ARanked};
+ghost use Rattle.reader.specs.Texts.{AHead, Shares, SettlesCommon, SettlesPart, unless_long};
+ghost use Rattle.reader.specs.Counting.{OneName, NumberOf, ANumber, Sure, AnEntry, SomeEntries, ListedEntries, count_of, one_more, told_kind, full_in, AnOperation, SomeOperations, ASection, output_section, error_section, type_section, SomeSections, ARule, ending, Decides, Keeps};
 ghost use Rattle.syntax.specs.Sections.{nothing, a_spelling, entries, kind_ahead, a_parameter, token_section, a_section, a_level, a_side, an_operator, some_operators, operator_section, mechanism_section, other_section};
 ghost use Rattle.base.specs.Common.{same, bytes};
 ghost use Rattle.syntax.specs.Parse.{some_rules, program, parse};
 ghost use Rattle.syntax.specs.Texts.{some_heads, read_common, read_part};
 ghost use Rattle.words.specs.Words.{words, words_at};
 
+use base::{Fault, Refusal};
 use scanner::WordAt;
 
-// fault 0: read up to the place `at`. Else the fault's number and its word.
-#[derive(Clone, Copy)]
-pub struct Out {
-    pub fault: u16,
-    pub at: usize,
-    pub len: usize,
-}
-
-// Counted that were read, and how many more may stand in their choice.
-#[derive(Clone, Copy)]
+// Labels or sections that were read, up to the place `at`, and how many more labels or names may stand.
+#[derive(Clone, Copy, Debug, PartialEq, Eq)]
 pub struct Counted {
-    pub out: Out,
+    pub at: usize,
     pub room: usize,
 }
 
-// What was read, and its value.
-#[derive(Clone, Copy)]
+// The value of what was read up to the place `at`.
+#[derive(Clone, Copy, Debug, PartialEq, Eq)]
 pub struct Valued {
-    pub out: Out,
+    pub at: usize,
     pub value: usize,
 }
 
-// Entries: how many names may still be declared, and one above the greatest value.
-#[derive(Clone, Copy)]
+// Entries that were read up to the place `at`: how many names may still be declared, and one above the greatest value.
+#[derive(Clone, Copy, Debug, PartialEq, Eq)]
 pub struct Entries {
-    pub out: Out,
+    pub at: usize,
     pub left: usize,
     pub top: usize,
 }
 
 // How many operations there are of each kind: updates, updates with a parameter, choices, choices with a parameter.
-#[derive(Clone, Copy)]
+#[derive(Clone, Copy, Debug, PartialEq, Eq)]
 pub struct Seen {
     pub plain: usize,
     pub taking: usize,
@@ -56,30 +50,30 @@ pub struct Seen {
 }
 
 // What the words after an operation's name tell of its kind: whether they do, and if it takes a parameter and gives a value.
-#[derive(Clone, Copy)]
+#[derive(Clone, Copy, Debug, PartialEq, Eq)]
 pub struct Ahead {
     pub known: bool,
     pub takes: bool,
     pub gives: bool,
 }
 
-// An operation, and the counts after it.
-#[derive(Clone, Copy)]
+// An operation that was read up to the place `at`, and the counts after it.
+#[derive(Clone, Copy, Debug, PartialEq, Eq)]
 pub struct Added {
-    pub out: Out,
+    pub at: usize,
     pub seen: Seen,
 }
 
-// Operations: how many names may still be declared, and the counts.
-#[derive(Clone, Copy)]
+// Operations that were read up to the place `at`: how many names may still be declared, and the counts.
+#[derive(Clone, Copy, Debug, PartialEq, Eq)]
 pub struct Operations {
-    pub out: Out,
+    pub at: usize,
     pub left: usize,
     pub seen: Seen,
 }
 
 // What the sections so far leave: names that may still be declared, one above the greatest value of each class, the counts.
-#[derive(Clone, Copy)]
+#[derive(Clone, Copy, Debug, PartialEq, Eq)]
 pub struct State {
     pub left: usize,
     pub input: usize,
@@ -88,10 +82,10 @@ pub struct State {
     pub seen: Seen,
 }
 
-// A section, and the state after it.
-#[derive(Clone, Copy)]
+// A section that was read up to the place `at`, and the state after it.
+#[derive(Clone, Copy, Debug, PartialEq, Eq)]
 pub struct Sectioned {
-    pub out: Out,
+    pub at: usize,
     pub state: State,
 }
 
@@ -103,145 +97,113 @@ pub fn look(text: &[u8], at: usize) -> WordAt
     scanner::next_word(text, at)
 }
 
-fn refused(w: WordAt) -> Out
-    ensures { Faulty (refusal w.kind) w result }
+fn refused(w: WordAt) -> Refusal
+    ensures { Faulty (refusal w.kind) w (failing result) }
 {
-    if w.kind == words::BAD {
-        Out {
-            fault: base::NO_WORD,
-            at: w.start,
-            len: w.len,
-        }
+    let fault = if w.kind == words::BAD {
+        Fault::NoWord
     } else {
-        Out {
-            fault: base::NOT_ALLOWED,
-            at: w.start,
-            len: w.len,
-        }
-    }
-}
-
-fn over(w: WordAt) -> Out
-    ensures { Faulty 9 w result }
-{
-    Out {
-        fault: base::OVER_LIMIT,
+        Fault::NotAllowed
+    };
+    Refusal {
+        fault,
         at: w.start,
         len: w.len,
     }
 }
 
-fn expect_word(text: &[u8], at: usize, kind: u16) -> Out
+fn over(w: WordAt) -> Refusal
+    ensures { Faulty 9 w (failing result) }
+{
+    Refusal {
+        fault: Fault::OverLimit,
+        at: w.start,
+        len: w.len,
+    }
+}
+
+fn expect_word(text: &[u8], at: usize, kind: u16) -> Result<usize, Refusal>
     requires { (at ≤ length text.now) × (2 ≤ kind) }
-    ensures { Reads text.now at at (λ _. expect kind) result }
+    ensures { Reads text.now at at (λ _. expect kind) (out result) }
 {
     let w = look(text, at);
     if w.kind == kind {
-        return Out {
-            fault: 0,
-            at: w.next,
-            len: 0,
-        };
+        Ok(w.next)
+    } else {
+        Err(refused(w))
     }
-    refused(w)
 }
 
 // A word that is to be a name.
-fn check_name(w: WordAt) -> Out
-    ensures { (text : List ℕ) (at : ℕ) → Here text at w → Moves text at at (λ _. a_name) result }
+fn check_name(w: WordAt) -> Result<usize, Refusal>
+    ensures { (text : List ℕ) (at : ℕ) → Here text at w → Moves text at at (λ _. a_name) (out result) }
 {
     if w.kind != words::NAME {
-        return refused(w);
+        return Err(refused(w));
     }
     if base::WORD_BYTES < w.len {
-        return over(w);
+        return Err(over(w));
     }
-    Out {
-        fault: 0,
-        at: w.next,
-        len: 0,
-    }
+    Ok(w.next)
 }
 
-fn read_name(text: &[u8], at: usize) -> Out
+fn read_name(text: &[u8], at: usize) -> Result<usize, Refusal>
     requires { at ≤ length text.now }
-    ensures { Moves text.now at at (λ _. a_name) result }
+    ensures { Moves text.now at at (λ _. a_name) (out result) }
 {
     let w = look(text, at);
     check_name(w)
 }
 
-fn name_or_string(text: &[u8], at: usize) -> Out
+fn name_or_string(text: &[u8], at: usize) -> Result<usize, Refusal>
     requires { at ≤ length text.now }
-    ensures { Moves text.now at at (λ _. name_or_string) result }
+    ensures { Moves text.now at at (λ _. name_or_string) (out result) }
 {
     let w = look(text, at);
     if w.kind == words::STRING {
-        return Out {
-            fault: 0,
-            at: w.next,
-            len: 0,
-        };
+        return Ok(w.next);
     }
     check_name(w)
 }
 
-fn read_constant(text: &[u8], at: usize) -> Out
+fn read_constant(text: &[u8], at: usize) -> Result<usize, Refusal>
     requires { at ≤ length text.now }
-    ensures { Reads text.now at at (λ _. a_constant) result }
+    ensures { Reads text.now at at (λ _. a_constant) (out result) }
 {
     let w = look(text, at);
     if w.kind != words::OPENING {
-        return Out {
-            fault: 0,
-            at,
-            len: 0,
-        };
+        return Ok(at);
     }
-    let r = name_or_string(text, w.next);
-    if r.fault != 0 {
-        return r;
-    }
-    expect_word(text, r.at, words::CLOSING)
+    let r = name_or_string(text, w.next)?;
+    expect_word(text, r, words::CLOSING)
 }
 
 // A name, the word w at the place, and its constant.
-fn with_constant(text: &[u8], at: usize, w: WordAt) -> Out
+fn with_constant(text: &[u8], at: usize, w: WordAt) -> Result<usize, Refusal>
     requires { Here text.now at w }
-    ensures { Moves text.now at at (λ _. with_constant) result }
+    ensures { Moves text.now at at (λ _. with_constant) (out result) }
 {
-    let r = check_name(w);
-    if r.fault != 0 {
-        return r;
-    }
-    read_constant(text, r.at)
+    let r = check_name(w)?;
+    read_constant(text, r)
 }
 
-fn read_value(text: &[u8], at: usize) -> Out
+fn read_value(text: &[u8], at: usize) -> Result<usize, Refusal>
     requires { at ≤ length text.now }
-    ensures { Reads text.now at at (λ _. a_value) result }
+    ensures { Reads text.now at at (λ _. a_value) (out result) }
 {
     let w = look(text, at);
     if w.kind == words::NAME {
         return check_name(w);
     }
     if w.kind == words::STRING {
-        return Out {
-            fault: 0,
-            at: w.next,
-            len: 0,
-        };
+        return Ok(w.next);
     }
-    Out {
-        fault: 0,
-        at,
-        len: 0,
-    }
+    Ok(at)
 }
 
-fn read_selector(text: &[u8], at: usize) -> Out
+fn read_selector(text: &[u8], at: usize) -> Result<usize, Refusal>
     requires { at ≤ length text.now }
-    ensures { Reads text.now at at (λ _. a_selector) result }
+    ensures { Reads text.now at at (λ _. a_selector) (out result) }
 {
     let w = look(text, at);
     if w.kind == words::AT {
@@ -250,164 +212,120 @@ fn read_selector(text: &[u8], at: usize) -> Out
     if w.kind == words::NAME {
         return with_constant(text, at, w);
     }
-    Out {
-        fault: 0,
-        at,
-        len: 0,
-    }
+    Ok(at)
 }
 
 // The rest of `^`: a section, `@`, a rule.
-fn read_ranked(text: &[u8], at: usize) -> Out
+fn read_ranked(text: &[u8], at: usize) -> Result<usize, Refusal>
     requires { at ≤ length text.now }
-    ensures { ARanked text.now at result }
+    ensures { ARanked text.now at (out result) }
 {
-    let r = read_name(text, at);
-    if r.fault != 0 {
-        return r;
-    }
-    let s = expect_word(text, r.at, words::AT);
-    if s.fault != 0 {
-        return s;
-    }
-    read_name(text, s.at)
+    let r = read_name(text, at)?;
+    let s = expect_word(text, r, words::AT)?;
+    read_name(text, s)
 }
 
 // A plain action, whose first word is w.
-fn read_plain(text: &[u8], at: usize, w: WordAt) -> Out
+fn read_plain(text: &[u8], at: usize, w: WordAt) -> Result<usize, Refusal>
     requires { Here text.now at w }
-    ensures { Moves text.now at at (λ _. a_plain) result }
+    ensures { Moves text.now at at (λ _. a_plain) (out result) }
 {
     let kind = w.kind;
     match kind {
         words::NAME => with_constant(text, at, w),
         words::STRING => read_constant(text, w.next),
-        words::QUESTION => Out {
-            fault: 0,
-            at: w.next,
-            len: 0,
-        },
+        words::QUESTION => Ok(w.next),
         words::POINT => name_or_string(text, w.next),
         words::HASH => name_or_string(text, w.next),
-        words::GREATER => Out {
-            fault: 0,
-            at: w.next,
-            len: 0,
-        },
+        words::GREATER => Ok(w.next),
         words::AT => read_name(text, w.next),
         words::TWICE => read_value(text, w.next),
         words::CARET => read_ranked(text, w.next),
-        _ => refused(w),
+        _ => Err(refused(w)),
     }
 }
 
 // A label where `room` more may stand.
-fn read_label(text: &[u8], at: usize, room: usize) -> Out
+fn read_label(text: &[u8], at: usize, room: usize) -> Result<usize, Refusal>
     requires { at ≤ length text.now }
-    ensures { OneLabel text.now at room result }
+    ensures { OneLabel text.now at room (out result) }
 {
     let w = look(text, at);
     if w.kind == words::STRING {
         if room == 0 {
-            return over(w);
+            return Err(over(w));
         }
-        return Out {
-            fault: 0,
-            at: w.next,
-            len: 0,
-        };
+        return Ok(w.next);
     }
     if w.kind != words::NAME {
-        return refused(w);
+        return Err(refused(w));
     }
     if room == 0 {
-        return over(w);
+        return Err(over(w));
     }
     if base::WORD_BYTES < w.len {
-        return over(w);
+        return Err(over(w));
     }
-    Out {
-        fault: 0,
-        at: w.next,
-        len: 0,
-    }
+    Ok(w.next)
 }
 
 // Labels up to a word that is no comma.
-fn read_labels(text: &[u8], at: usize, room: usize) -> Counted
+fn read_labels(text: &[u8], at: usize, room: usize) -> Result<Counted, Refusal>
     requires { at ≤ length text.now }
-    ensures { Yields (Leaves room result.room) text.now at (at + 1) (λ k. some_labels k room) result.out }
+    ensures { SomeLabels text.now at room result }
 {
     let mut i = at;
     let mut left = room;
+    // no range: what is read says where the next begins
     loop {
-        let r = read_label(text, i, left);
-        if r.fault != 0 {
-            return Counted { out: r, room: 0 };
-        }
-        let rest = left - 1;
-        let w = look(text, r.at);
+        let r = read_label(text, i, left)?;
+        left -= 1;
+        let w = look(text, r);
         if w.kind != words::COMMA {
-            return Counted { out: r, room: rest };
+            return Ok(Counted { at: r, room: left });
         }
         i = w.next;
-        left = rest;
     }
 }
 
 pub fn is_closing(kind: u16) -> bool
     ensures { result ≡ closes kind }
 {
-    if kind == words::SEMICOLON {
-        return true;
-    }
-    if kind == words::OD {
-        return true;
-    }
-    if kind == words::FI {
-        return true;
-    }
-    kind == words::BAR
+    matches!(kind, words::SEMICOLON | words::OD | words::FI | words::BAR)
 }
 
 #[cycle(read_action_read_actions_read_alternatives_read_choice_read_cycle_read_labelled_read_otherwise)]
-fn read_actions(text: &[u8], at: usize, left: usize) -> Out
+fn read_actions(text: &[u8], at: usize, left: usize) -> Result<usize, Refusal>
     requires { at ≤ length text.now }
-    ensures { Reads text.now at at (λ k. actions k left) result }
+    ensures { Reads text.now at at (λ k. actions k left) (out result) }
 {
     let mut i = at;
+    // no range: what is read says where the next begins
     loop {
         let w = look(text, i);
         if is_closing(w.kind) {
-            return Out {
-                fault: 0,
-                at: i,
-                len: 0,
-            };
+            return Ok(i);
         }
-        let r = read_action(text, i, w, left);
-        if r.fault != 0 {
-            return r;
-        }
-        i = r.at;
+        let r = read_action(text, i, w, left)?;
+        i = r;
     }
 }
 
 // An action, whose first word is w.
 #[cycle(read_action_read_actions_read_alternatives_read_choice_read_cycle_read_labelled_read_otherwise)]
-fn read_action(text: &[u8], at: usize, w: WordAt, left: usize) -> Out
+fn read_action(text: &[u8], at: usize, w: WordAt, left: usize) -> Result<usize, Refusal>
     requires { Here text.now at w }
-    ensures { Moves text.now at (at + 1) (λ k. one_action k left) result }
+    ensures { Moves text.now at (at + 1) (λ k. one_action k left) (out result) }
 {
     if w.kind == words::DO {
         if left == 0 {
-            return over(w);
+            return Err(over(w));
         }
         return read_cycle(text, w.next, left - 1);
     }
     if w.kind == words::IF {
         if left == 0 {
-            return over(w);
+            return Err(over(w));
         }
         return read_choice(text, w.next, left - 1);
     }
@@ -416,55 +334,43 @@ fn read_action(text: &[u8], at: usize, w: WordAt, left: usize) -> Out
 
 // The rest of a cycle after its brace.
 #[cycle(read_action_read_actions_read_alternatives_read_choice_read_cycle_read_labelled_read_otherwise)]
-fn read_cycle(text: &[u8], at: usize, left: usize) -> Out
+fn read_cycle(text: &[u8], at: usize, left: usize) -> Result<usize, Refusal>
     requires { at ≤ length text.now }
-    ensures { Reads text.now at at (λ k. a_cycle (actions k left)) result }
+    ensures { Reads text.now at at (λ k. a_cycle (actions k left)) (out result) }
 {
-    let r = read_actions(text, at, left);
-    if r.fault != 0 {
-        return r;
-    }
-    expect_word(text, r.at, words::OD)
+    let r = read_actions(text, at, left)?;
+    expect_word(text, r, words::OD)
 }
 
 // The rest of a choice after its bracket.
 #[cycle(read_action_read_actions_read_alternatives_read_choice_read_cycle_read_labelled_read_otherwise)]
-fn read_choice(text: &[u8], at: usize, left: usize) -> Out
+fn read_choice(text: &[u8], at: usize, left: usize) -> Result<usize, Refusal>
     requires { at ≤ length text.now }
-    ensures { Reads text.now at at (λ k. a_choice (alternatives k left 64)) result }
+    ensures { Reads text.now at at (λ k. a_choice (alternatives k left 64)) (out result) }
 {
-    let h = read_selector(text, at);
-    if h.fault != 0 {
-        return h;
-    }
-    let b = expect_word(text, h.at, words::BAR);
-    if b.fault != 0 {
-        return b;
-    }
-    read_alternatives(text, b.at, left, base::LABELS)
+    let h = read_selector(text, at)?;
+    let b = expect_word(text, h, words::BAR)?;
+    read_alternatives(text, b, left, base::LABELS)
 }
 
 // Alternatives, in a choice where `room` more labels may stand.
 #[cycle(read_action_read_actions_read_alternatives_read_choice_read_cycle_read_labelled_read_otherwise)]
-fn read_alternatives(text: &[u8], at: usize, left: usize, room: usize) -> Out
+fn read_alternatives(text: &[u8], at: usize, left: usize, room: usize) -> Result<usize, Refusal>
     requires { at ≤ length text.now }
-    ensures { Reads text.now at at (λ k. alternatives k left room) result }
+    ensures { Reads text.now at at (λ k. alternatives k left room) (out result) }
 {
     let mut i = at;
     let mut free = room;
+    // no range: what is read says where the next begins
     loop {
         let w = look(text, i);
         if w.kind == words::STAR {
             return read_otherwise(text, w.next, left);
         }
-        let l = read_labelled(text, i, left, free);
-        let r = l.out;
-        if r.fault != 0 {
-            return r;
-        }
-        let s = look(text, r.at);
+        let l = read_labelled(text, i, left, free)?;
+        let s = look(text, l.at);
         if s.kind != words::BAR {
-            return expect_word(text, r.at, words::FI);
+            return expect_word(text, l.at, words::FI);
         }
         i = s.next;
         free = l.room;
@@ -473,73 +379,52 @@ fn read_alternatives(text: &[u8], at: usize, left: usize, room: usize) -> Out
 
 // The rest of otherwise after its star.
 #[cycle(read_action_read_actions_read_alternatives_read_choice_read_cycle_read_labelled_read_otherwise)]
-fn read_otherwise(text: &[u8], at: usize, left: usize) -> Out
+fn read_otherwise(text: &[u8], at: usize, left: usize) -> Result<usize, Refusal>
     requires { at ≤ length text.now }
-    ensures { Reads text.now at at (λ k. an_otherwise (actions k left)) result }
+    ensures { Reads text.now at at (λ k. an_otherwise (actions k left)) (out result) }
 {
-    let c = expect_word(text, at, words::COLON);
-    if c.fault != 0 {
-        return c;
-    }
-    let r = read_actions(text, c.at, left);
-    if r.fault != 0 {
-        return r;
-    }
-    expect_word(text, r.at, words::FI)
+    let c = expect_word(text, at, words::COLON)?;
+    let r = read_actions(text, c, left)?;
+    expect_word(text, r, words::FI)
 }
 
 // The labels and the actions of an alternative, after its bar.
 #[cycle(read_action_read_actions_read_alternatives_read_choice_read_cycle_read_labelled_read_otherwise)]
-fn read_labelled(text: &[u8], at: usize, left: usize, room: usize) -> Counted
+fn read_labelled(text: &[u8], at: usize, left: usize, room: usize) -> Result<Counted, Refusal>
     requires { at ≤ length text.now }
-    ensures { Yields (LeavesBoth room result.room) text.now at (at + 1) (λ k. a_labelled k room (actions k left)) result.out }
+    ensures { ALabelled text.now at room left result }
 {
-    let m = read_labels(text, at, room);
-    let l = m.out;
-    if l.fault != 0 {
-        return m;
-    }
-    let c = expect_word(text, l.at, words::COLON);
-    if c.fault != 0 {
-        return Counted { out: c, room: 0 };
-    }
-    let r = read_actions(text, c.at, left);
-    Counted {
-        out: r,
-        room: m.room,
-    }
+    let l = read_labels(text, at, room)?;
+    let c = expect_word(text, l.at, words::COLON)?;
+    let r = read_actions(text, c, left)?;
+    Ok(Counted {
+        at: r,
+        room: l.room,
+    })
 }
 
 // A name where `left` more may be declared.
-fn read_one_name(text: &[u8], at: usize, left: usize) -> Out
+fn read_one_name(text: &[u8], at: usize, left: usize) -> Result<usize, Refusal>
     requires { at ≤ length text.now }
-    ensures { OneName text.now at left result }
+    ensures { OneName text.now at left (out result) }
 {
     let w = look(text, at);
     if w.kind != words::NAME {
-        return refused(w);
+        return Err(refused(w));
     }
     if left == 0 {
-        return over(w);
+        return Err(over(w));
     }
     if base::WORD_BYTES < w.len {
-        return over(w);
+        return Err(over(w));
     }
-    Out {
-        fault: 0,
-        at: w.next,
-        len: 0,
-    }
+    Ok(w.next)
 }
 
 fn digit_of(b: u8) -> usize
     ensures { (result ≡ b - 48) × (result < 256) }
 {
-    if b < b'0' {
-        return 0;
-    }
-    let d = b - b'0';
-    d as usize
+    usize::from(b.saturating_sub(b'0'))
 }
 
 // The value of a number's digits, or some number past 65,535 where it is past that.
@@ -547,191 +432,140 @@ pub fn number_of(text: &[u8], start: usize, len: usize) -> usize
     requires { start + len ≤ length text.now }
     ensures { NumberOf (take len (drop start text.now)) result }
 {
-    let mut n: usize = 0;
-    let mut i: usize = 0;
-    while i < len {
-        let j = start + i;
-        let d = digit_of(text[j]);
-        let m = n * 10 + d;
-        if base::GREATEST_VALUE < m {
-            return m;
+    let mut n = 0;
+    for &b in base::part(text, start, len) {
+        n = n * 10 + digit_of(b);
+        if base::GREATEST_VALUE < n {
+            return n;
         }
-        n = m;
-        i += 1;
     }
     n
 }
 
-fn read_number(text: &[u8], at: usize) -> Valued
+fn read_number(text: &[u8], at: usize) -> Result<Valued, Refusal>
     requires { at ≤ length text.now }
     ensures { ANumber text.now at result }
 {
     let w = look(text, at);
     if w.kind != words::NUMBER {
-        let r = refused(w);
-        return Valued { out: r, value: 0 };
+        return Err(refused(w));
     }
     let n = number_of(text, w.start, w.len);
     if base::GREATEST_VALUE < n {
-        let r = over(w);
-        return Valued { out: r, value: 0 };
+        return Err(over(w));
     }
-    let r = Out {
-        fault: 0,
+    Ok(Valued {
         at: w.next,
-        len: 0,
-    };
-    Valued { out: r, value: n }
+        value: n,
+    })
 }
 
 // An entry's string, where it may have one.
-fn read_spelling(text: &[u8], at: usize, strings: bool) -> Out
+fn read_spelling(text: &[u8], at: usize, strings: bool) -> usize
     requires { at ≤ length text.now }
     ensures { Sure text.now at (a_spelling strings) result }
 {
-    if strings {
-        let w = look(text, at);
-        if w.kind == words::STRING {
-            return Out {
-                fault: 0,
-                at: w.next,
-                len: 0,
-            };
-        }
-        return Out {
-            fault: 0,
-            at,
-            len: 0,
-        };
-    }
-    Out {
-        fault: 0,
-        at,
-        len: 0,
+    let w = look(text, at);
+    if strings && w.kind == words::STRING {
+        w.next
+    } else {
+        at
     }
 }
 
 // An entry where `left` more names may be declared and counting stands at v.
-fn read_entry(text: &[u8], at: usize, left: usize, strings: bool, v: usize) -> Valued
+fn read_entry(
+    text: &[u8],
+    at: usize,
+    left: usize,
+    strings: bool,
+    v: usize,
+) -> Result<Valued, Refusal>
     requires { at ≤ length text.now }
     ensures { AnEntry text.now at left strings v result }
 {
     let w = look(text, at);
-    let o = read_one_name(text, at, left);
-    if o.fault != 0 {
-        return Valued { out: o, value: 0 };
-    }
-    let s = read_spelling(text, o.at, strings);
-    let e = look(text, s.at);
+    let o = read_one_name(text, at, left)?;
+    let s = read_spelling(text, o, strings);
+    let e = look(text, s);
     if e.kind == words::EQUALS {
         return read_number(text, e.next);
     }
     if base::GREATEST_VALUE < v {
-        let r = over(w);
-        return Valued { out: r, value: 0 };
+        return Err(over(w));
     }
-    Valued { out: s, value: v }
-}
-
-pub fn larger(a: usize, b: usize) -> usize
-    ensures { result ≡ max a b }
-{
-    if a < b {
-        return b;
-    }
-    a
+    Ok(Valued { at: s, value: v })
 }
 
 // Entries to the semicolon, counting from v.
-fn read_entries(text: &[u8], at: usize, left: usize, strings: bool, v: usize) -> Entries
+fn read_entries(
+    text: &[u8],
+    at: usize,
+    left: usize,
+    strings: bool,
+    v: usize,
+) -> Result<Entries, Refusal>
     requires { at ≤ length text.now }
-    ensures { Yields (Entered left 0 result.left result.top) text.now at at (λ k. entries k left strings v) result.out }
+    ensures { SomeEntries text.now at left strings v result }
 {
     let mut i = at;
     let mut names = left;
     let mut next = v;
-    let mut top: usize = 0;
+    let mut top = 0;
+    // no range: what is read says where the next begins
     loop {
-        let e = read_entry(text, i, names, strings, next);
-        let o = e.out;
-        if o.fault != 0 {
-            return Entries {
-                out: o,
-                left: 0,
-                top: 0,
-            };
-        }
-        let rest = names - 1;
-        let n = e.value + 1;
-        let t = larger(top, n);
-        let w = look(text, o.at);
+        let e = read_entry(text, i, names, strings, next)?;
+        names -= 1;
+        next = e.value + 1;
+        top = top.max(next);
+        let w = look(text, e.at);
         if w.kind == words::SEMICOLON {
-            let r = Out {
-                fault: 0,
+            return Ok(Entries {
                 at: w.next,
-                len: 0,
-            };
-            return Entries {
-                out: r,
-                left: rest,
-                top: t,
-            };
+                left: names,
+                top,
+            });
         }
-        i = o.at;
-        names = rest;
-        next = n;
-        top = t;
+        i = e.at;
     }
 }
 
 // A colon and entries.
-fn read_listed(text: &[u8], at: usize, left: usize, strings: bool, v: usize) -> Entries
+fn read_listed(
+    text: &[u8],
+    at: usize,
+    left: usize,
+    strings: bool,
+    v: usize,
+) -> Result<Entries, Refusal>
     requires { at ≤ length text.now }
-    ensures { Yields (Entered left 0 result.left result.top) text.now at at (λ k. listed k left strings v) result.out }
+    ensures { ListedEntries text.now at left strings v result }
 {
-    let c = expect_word(text, at, words::COLON);
-    if c.fault != 0 {
-        return Entries {
-            out: c,
-            left: 0,
-            top: 0,
-        };
-    }
-    read_entries(text, c.at, left, strings, v)
+    let c = expect_word(text, at, words::COLON)?;
+    read_entries(text, c, left, strings, v)
 }
 
 // A parameter's type in parentheses, where there is one.
-fn read_parameter(text: &[u8], at: usize) -> Out
+fn read_parameter(text: &[u8], at: usize) -> Result<usize, Refusal>
     requires { at ≤ length text.now }
-    ensures { Reads text.now at at (λ _. a_parameter) result }
+    ensures { Reads text.now at at (λ _. a_parameter) (out result) }
 {
     let w = look(text, at);
     if w.kind != words::OPENING {
-        return Out {
-            fault: 0,
-            at,
-            len: 0,
-        };
+        return Ok(at);
     }
-    let r = read_name(text, w.next);
-    if r.fault != 0 {
-        return r;
-    }
-    expect_word(text, r.at, words::CLOSING)
+    let r = read_name(text, w.next)?;
+    expect_word(text, r, words::CLOSING)
 }
 
 // The type after `>>`, where there is one.
-fn read_gives(text: &[u8], at: usize) -> Out
+fn read_gives(text: &[u8], at: usize) -> Result<usize, Refusal>
     requires { at ≤ length text.now }
-    ensures { Reads text.now at at (λ _. optional 256 a_name) result }
+    ensures { Reads text.now at at (λ _. optional 256 a_name) (out result) }
 {
     let w = look(text, at);
     if w.kind != words::TWICE {
-        return Out {
-            fault: 0,
-            at,
-            len: 0,
-        };
+        return Ok(at);
     }
     read_name(text, w.next)
 }
@@ -739,55 +573,35 @@ fn read_gives(text: &[u8], at: usize) -> Out
 pub fn count_of(seen: Seen, takes: bool, gives: bool) -> usize
     ensures { result ≡ count_of seen takes gives }
 {
-    if takes {
-        if gives {
-            return seen.both;
-        }
-        return seen.taking;
+    match (takes, gives) {
+        (false, false) => seen.plain,
+        (true, false) => seen.taking,
+        (false, true) => seen.giving,
+        (true, true) => seen.both,
     }
-    if gives {
-        return seen.giving;
-    }
-    seen.plain
 }
 
 pub fn one_more(seen: Seen, takes: bool, gives: bool) -> Seen
     requires { count_of seen takes gives < 256 }
     ensures { result ≡ one_more seen takes gives }
 {
-    if takes {
-        if gives {
-            let n = seen.both + 1;
-            return Seen {
-                plain: seen.plain,
-                taking: seen.taking,
-                giving: seen.giving,
-                both: n,
-            };
-        }
-        let n = seen.taking + 1;
-        return Seen {
-            plain: seen.plain,
-            taking: n,
-            giving: seen.giving,
-            both: seen.both,
-        };
-    }
-    if gives {
-        let n = seen.giving + 1;
-        return Seen {
-            plain: seen.plain,
-            taking: seen.taking,
-            giving: n,
-            both: seen.both,
-        };
-    }
-    let n = seen.plain + 1;
-    Seen {
-        plain: n,
-        taking: seen.taking,
-        giving: seen.giving,
-        both: seen.both,
+    match (takes, gives) {
+        (false, false) => Seen {
+            plain: seen.plain + 1,
+            ..seen
+        },
+        (true, false) => Seen {
+            taking: seen.taking + 1,
+            ..seen
+        },
+        (false, true) => Seen {
+            giving: seen.giving + 1,
+            ..seen
+        },
+        (true, true) => Seen {
+            both: seen.both + 1,
+            ..seen
+        },
     }
 }
 
@@ -834,319 +648,236 @@ fn look_ahead(text: &[u8], at: usize) -> Ahead
 fn is_full(seen: Seen, kind: Ahead) -> bool
     ensures { result ≡ full_in seen kind }
 {
-    if kind.known {
-        let n = count_of(seen, kind.takes, kind.gives);
-        return base::OPERATIONS <= n;
-    }
-    false
+    kind.known && base::OPERATIONS <= count_of(seen, kind.takes, kind.gives)
 }
 
 // An operation where `left` more names may be declared. Past its kind's last, its name is at fault before its types are judged.
-fn read_operation(text: &[u8], at: usize, left: usize, seen: Seen) -> Added
+fn read_operation(text: &[u8], at: usize, left: usize, seen: Seen) -> Result<Added, Refusal>
     requires { at ≤ length text.now }
     ensures { AnOperation text.now at left seen result }
 {
     let w = look(text, at);
-    let o = read_one_name(text, at, left);
-    if o.fault != 0 {
-        return Added { out: o, seen };
-    }
-    let kind = look_ahead(text, o.at);
+    let o = read_one_name(text, at, left)?;
+    let kind = look_ahead(text, o);
     if is_full(seen, kind) {
-        let r = over(w);
-        return Added { out: r, seen };
+        return Err(over(w));
     }
-    let t = read_parameter(text, o.at);
-    if t.fault != 0 {
-        return Added { out: t, seen };
-    }
+    let t = read_parameter(text, o)?;
     let s = one_more(seen, kind.takes, kind.gives);
-    let r = read_gives(text, t.at);
-    Added { out: r, seen: s }
+    let r = read_gives(text, t)?;
+    Ok(Added { at: r, seen: s })
 }
 
 // Operations to the semicolon.
-fn read_operations(text: &[u8], at: usize, left: usize, seen: Seen) -> Operations
+fn read_operations(text: &[u8], at: usize, left: usize, seen: Seen) -> Result<Operations, Refusal>
     requires { at ≤ length text.now }
-    ensures { SomeOperations text.now at left seen result.out result.left result.seen }
+    ensures { SomeOperations text.now at left seen result }
 {
     let mut i = at;
     let mut names = left;
     let mut counts = seen;
+    // no range: what is read says where the next begins
     loop {
-        let a = read_operation(text, i, names, counts);
-        let o = a.out;
-        if o.fault != 0 {
-            return Operations {
-                out: o,
-                left: 0,
-                seen,
-            };
-        }
-        let rest = names - 1;
-        let s = a.seen;
-        let w = look(text, o.at);
+        let a = read_operation(text, i, names, counts)?;
+        names -= 1;
+        counts = a.seen;
+        let w = look(text, a.at);
         if w.kind == words::SEMICOLON {
-            let r = Out {
-                fault: 0,
+            return Ok(Operations {
                 at: w.next,
-                len: 0,
-            };
-            return Operations {
-                out: r,
-                left: rest,
-                seen: s,
-            };
+                left: names,
+                seen: counts,
+            });
         }
-        i = o.at;
-        names = rest;
-        counts = s;
+        i = a.at;
     }
 }
 
 // An input section, or one of inputs and outputs, after its word `input`.
-fn read_tokens(text: &[u8], at: usize, state: State) -> Sectioned
+fn read_tokens(text: &[u8], at: usize, state: State) -> Result<Sectioned, Refusal>
     requires { at ≤ length text.now }
     ensures { ASection text.now at at token_section state result }
 {
-    let seen = state.seen;
     let w = look(text, at);
     if w.kind == words::OUTPUT {
-        let v = larger(state.input, state.output);
-        let e = read_listed(text, w.next, state.left, true, v);
-        let out = e.out;
-        let input = larger(state.input, e.top);
-        let output = larger(state.output, e.top);
+        let v = state.input.max(state.output);
+        let e = read_listed(text, w.next, state.left, true, v)?;
+        let input = state.input.max(e.top);
+        let output = state.output.max(e.top);
         let after = State {
             left: e.left,
             input,
             output,
-            error: state.error,
-            seen,
+            ..state
         };
-        return Sectioned { out, state: after };
+        return Ok(Sectioned {
+            at: e.at,
+            state: after,
+        });
     }
-    let e = read_listed(text, at, state.left, true, state.input);
-    let out = e.out;
-    let input = larger(state.input, e.top);
+    let e = read_listed(text, at, state.left, true, state.input)?;
+    let input = state.input.max(e.top);
     let after = State {
         left: e.left,
         input,
-        output: state.output,
-        error: state.error,
-        seen,
+        ..state
     };
-    Sectioned { out, state: after }
+    Ok(Sectioned {
+        at: e.at,
+        state: after,
+    })
 }
 
 // An output section after its head.
-fn read_outputs(text: &[u8], at: usize, state: State) -> Sectioned
+fn read_outputs(text: &[u8], at: usize, state: State) -> Result<Sectioned, Refusal>
     requires { at ≤ length text.now }
     ensures { ASection text.now at at output_section state result }
 {
-    let seen = state.seen;
-    let e = read_listed(text, at, state.left, true, state.output);
-    let out = e.out;
-    let output = larger(state.output, e.top);
+    let e = read_listed(text, at, state.left, true, state.output)?;
+    let output = state.output.max(e.top);
     let after = State {
         left: e.left,
-        input: state.input,
         output,
-        error: state.error,
-        seen,
+        ..state
     };
-    Sectioned { out, state: after }
+    Ok(Sectioned {
+        at: e.at,
+        state: after,
+    })
 }
 
 // An error section after its head.
-fn read_errors(text: &[u8], at: usize, state: State) -> Sectioned
+fn read_errors(text: &[u8], at: usize, state: State) -> Result<Sectioned, Refusal>
     requires { at ≤ length text.now }
     ensures { ASection text.now at at error_section state result }
 {
-    let seen = state.seen;
-    let e = read_listed(text, at, state.left, false, state.error);
-    let out = e.out;
-    let error = larger(state.error, e.top);
+    let e = read_listed(text, at, state.left, false, state.error)?;
+    let error = state.error.max(e.top);
     let after = State {
         left: e.left,
-        input: state.input,
-        output: state.output,
         error,
-        seen,
+        ..state
     };
-    Sectioned { out, state: after }
+    Ok(Sectioned {
+        at: e.at,
+        state: after,
+    })
 }
 
 // A type section after its word `type`.
-fn read_types(text: &[u8], at: usize, state: State) -> Sectioned
+fn read_types(text: &[u8], at: usize, state: State) -> Result<Sectioned, Refusal>
     requires { at ≤ length text.now }
     ensures { ASection text.now at at type_section state result }
 {
-    let seen = state.seen;
-    let o = read_one_name(text, at, state.left);
-    if o.fault != 0 {
-        return Sectioned { out: o, state };
-    }
-    let rest = state.left - 1;
-    let e = read_listed(text, o.at, rest, false, 0);
-    let out = e.out;
+    let o = read_one_name(text, at, state.left)?;
+    let e = read_listed(text, o, state.left - 1, false, 0)?;
     let after = State {
         left: e.left,
-        input: state.input,
-        output: state.output,
-        error: state.error,
-        seen,
+        ..state
     };
-    Sectioned { out, state: after }
+    Ok(Sectioned {
+        at: e.at,
+        state: after,
+    })
 }
 
 // A section of operations.
-fn read_mechanism(text: &[u8], at: usize, state: State) -> Sectioned
+fn read_mechanism(text: &[u8], at: usize, state: State) -> Result<Sectioned, Refusal>
     requires { at ≤ length text.now }
     ensures { ASection text.now at (at + 1) mechanism_section state result }
 {
-    let m = expect_word(text, at, words::MECHANISM);
-    if m.fault != 0 {
-        return Sectioned { out: m, state };
-    }
-    let n = read_name(text, m.at);
-    if n.fault != 0 {
-        return Sectioned { out: n, state };
-    }
-    let c = expect_word(text, n.at, words::COLON);
-    if c.fault != 0 {
-        return Sectioned { out: c, state };
-    }
-    let seen = state.seen;
-    let p = read_operations(text, c.at, state.left, seen);
-    let out = p.out;
-    let s = p.seen;
+    let m = expect_word(text, at, words::MECHANISM)?;
+    let n = read_name(text, m)?;
+    let c = expect_word(text, n, words::COLON)?;
+    let p = read_operations(text, c, state.left, state.seen)?;
     let after = State {
         left: p.left,
-        input: state.input,
-        output: state.output,
-        error: state.error,
-        seen: s,
+        seen: p.seen,
+        ..state
     };
-    Sectioned { out, state: after }
+    Ok(Sectioned {
+        at: p.at,
+        state: after,
+    })
 }
 
 // A level, 1 to 15.
-fn read_level(text: &[u8], at: usize) -> Out
+fn read_level(text: &[u8], at: usize) -> Result<usize, Refusal>
     requires { at ≤ length text.now }
-    ensures { Moves text.now at at (λ _. a_level) result }
+    ensures { Moves text.now at at (λ _. a_level) (out result) }
 {
     let v = look(text, at);
     if v.kind != words::NUMBER {
-        return refused(v);
+        return Err(refused(v));
     }
-    let n = number_of(text, v.start, v.len);
-    if n == 0 {
-        return over(v);
-    }
-    if base::GREATEST_LEVEL < n {
-        return over(v);
-    }
-    Out {
-        fault: 0,
-        at: v.next,
-        len: 0,
+    match number_of(text, v.start, v.len) {
+        1..=base::GREATEST_LEVEL => Ok(v.next),
+        _ => Err(over(v)),
     }
 }
 
 // `left` or `right`.
-fn read_side(text: &[u8], at: usize) -> Out
+fn read_side(text: &[u8], at: usize) -> Result<usize, Refusal>
     requires { at ≤ length text.now }
-    ensures { Moves text.now at at (λ _. a_side) result }
+    ensures { Moves text.now at at (λ _. a_side) (out result) }
 {
     let w = look(text, at);
     if w.kind != words::NAME {
-        return refused(w);
+        return Err(refused(w));
     }
-    if scanner::spelt(text, w.start, w.len, b"left") {
-        return Out {
-            fault: 0,
-            at: w.next,
-            len: 0,
-        };
+    if scanner::spelt(text, w.start, w.len, b"left")
+        || scanner::spelt(text, w.start, w.len, b"right")
+    {
+        Ok(w.next)
+    } else {
+        Err(refused(w))
     }
-    if scanner::spelt(text, w.start, w.len, b"right") {
-        return Out {
-            fault: 0,
-            at: w.next,
-            len: 0,
-        };
-    }
-    refused(w)
 }
 
 // Token, level, side, output token.
-fn read_operator(text: &[u8], at: usize) -> Out
+fn read_operator(text: &[u8], at: usize) -> Result<usize, Refusal>
     requires { at ≤ length text.now }
-    ensures { Moves text.now at at (λ _. an_operator) result }
+    ensures { Moves text.now at at (λ _. an_operator) (out result) }
 {
-    let t = name_or_string(text, at);
-    if t.fault != 0 {
-        return t;
-    }
-    let l = read_level(text, t.at);
-    if l.fault != 0 {
-        return l;
-    }
-    let s = read_side(text, l.at);
-    if s.fault != 0 {
-        return s;
-    }
-    name_or_string(text, s.at)
+    let t = name_or_string(text, at)?;
+    let l = read_level(text, t)?;
+    let s = read_side(text, l)?;
+    name_or_string(text, s)
 }
 
 // Operators to the semicolon.
-fn read_operators(text: &[u8], at: usize) -> Out
+fn read_operators(text: &[u8], at: usize) -> Result<usize, Refusal>
     requires { at ≤ length text.now }
-    ensures { Moves text.now at at (λ k. some_operators k) result }
+    ensures { Moves text.now at at (λ k. some_operators k) (out result) }
 {
     let mut i = at;
+    // no range: what is read says where the next begins
     loop {
-        let r = read_operator(text, i);
-        if r.fault != 0 {
-            return r;
-        }
-        let w = look(text, r.at);
+        let r = read_operator(text, i)?;
+        let w = look(text, r);
         if w.kind == words::SEMICOLON {
-            return Out {
-                fault: 0,
-                at: w.next,
-                len: 0,
-            };
+            return Ok(w.next);
         }
-        i = r.at;
+        i = r;
     }
 }
 
 // A section of operators, after its `operators`.
-fn read_operator_section(text: &[u8], at: usize, state: State) -> Sectioned
+fn read_operator_section(text: &[u8], at: usize, state: State) -> Result<Sectioned, Refusal>
     requires { at ≤ length text.now }
     ensures { ASection text.now at at operator_section state result }
 {
-    let seen = state.seen;
-    let o = read_one_name(text, at, state.left);
-    if o.fault != 0 {
-        return Sectioned { out: o, state };
-    }
-    let rest = state.left - 1;
-    let c = expect_word(text, o.at, words::COLON);
-    if c.fault != 0 {
-        return Sectioned { out: c, state };
-    }
-    let out = read_operators(text, c.at);
+    let o = read_one_name(text, at, state.left)?;
+    let c = expect_word(text, o, words::COLON)?;
+    let r = read_operators(text, c)?;
     let after = State {
-        left: rest,
-        input: state.input,
-        output: state.output,
-        error: state.error,
-        seen,
+        left: state.left - 1,
+        ..state
     };
-    Sectioned { out, state: after }
+    Ok(Sectioned {
+        at: r,
+        state: after,
+    })
 }
 
 // The word is the name `operators`.
@@ -1154,14 +885,11 @@ fn is_operators(text: &[u8], w: WordAt) -> bool
     requires { w.start + w.len ≤ length text.now }
     ensures { result ≡ (eqb w.kind 257 && same (take w.len (drop w.start text.now)) (bytes "operators")) }
 {
-    if w.kind != words::NAME {
-        return false;
-    }
-    scanner::spelt(text, w.start, w.len, b"operators")
+    w.kind == words::NAME && scanner::spelt(text, w.start, w.len, b"operators")
 }
 
 // A section of operators or operations.
-fn read_other(text: &[u8], at: usize, state: State) -> Sectioned
+fn read_other(text: &[u8], at: usize, state: State) -> Result<Sectioned, Refusal>
     requires { at ≤ length text.now }
     ensures { ASection text.now at (at + 1) other_section state result }
 {
@@ -1172,7 +900,7 @@ fn read_other(text: &[u8], at: usize, state: State) -> Sectioned
     read_mechanism(text, at, state)
 }
 
-fn read_section(text: &[u8], at: usize, state: State) -> Sectioned
+fn read_section(text: &[u8], at: usize, state: State) -> Result<Sectioned, Refusal>
     requires { at ≤ length text.now }
     ensures { ASection text.now at (at + 1) a_section state result }
 {
@@ -1188,108 +916,69 @@ fn read_section(text: &[u8], at: usize, state: State) -> Sectioned
 }
 
 // Sections up to the word `rules`.
-fn read_sections(text: &[u8], at: usize, state: State) -> Counted
+fn read_sections(text: &[u8], at: usize, state: State) -> Result<Counted, Refusal>
     requires { at ≤ length text.now }
-    ensures { SomeSections text.now at state result.out result.room }
+    ensures { SomeSections text.now at state result }
 {
     let mut i = at;
     let mut sofar = state;
+    // no range: what is read says where the next begins
     loop {
         let w = look(text, i);
         if w.kind == words::RULES {
-            let r = Out {
-                fault: 0,
+            return Ok(Counted {
                 at: i,
-                len: 0,
-            };
-            return Counted {
-                out: r,
                 room: sofar.left,
-            };
+            });
         }
-        let x = read_section(text, i, sofar);
-        let o = x.out;
-        if o.fault != 0 {
-            return Counted { out: o, room: 0 };
-        }
-        let s = x.state;
-        i = o.at;
-        sofar = s;
+        let x = read_section(text, i, sofar)?;
+        i = x.at;
+        sofar = x.state;
     }
 }
 
 // A rule where `left` more may be declared.
-fn read_rule(text: &[u8], at: usize, left: usize) -> Out
+fn read_rule(text: &[u8], at: usize, left: usize) -> Result<usize, Refusal>
     requires { at ≤ length text.now }
-    ensures { ARule text.now at left result }
+    ensures { ARule text.now at left (out result) }
 {
-    let o = read_one_name(text, at, left);
-    if o.fault != 0 {
-        return o;
-    }
-    let g = read_gives(text, o.at);
-    if g.fault != 0 {
-        return g;
-    }
-    let c = expect_word(text, g.at, words::COLON);
-    if c.fault != 0 {
-        return c;
-    }
-    let b = read_actions(text, c.at, base::NESTED);
-    if b.fault != 0 {
-        return b;
-    }
-    expect_word(text, b.at, words::SEMICOLON)
+    let o = read_one_name(text, at, left)?;
+    let g = read_gives(text, o)?;
+    let c = expect_word(text, g, words::COLON)?;
+    let b = read_actions(text, c, base::NESTED)?;
+    expect_word(text, b, words::SEMICOLON)
 }
 
-fn read_rules(text: &[u8], at: usize, left: usize) -> Out
+fn read_rules(text: &[u8], at: usize, left: usize) -> Result<usize, Refusal>
     requires { at ≤ length text.now }
-    ensures { Reads text.now at at (λ k. some_rules k left) result }
+    ensures { Reads text.now at at (λ k. some_rules k left) (out result) }
 {
     let mut i = at;
     let mut names = left;
+    // no range: what is read says where the next begins
     loop {
-        let r = read_rule(text, i, names);
-        if r.fault != 0 {
-            return r;
-        }
-        let rest = names - 1;
-        let w = look(text, r.at);
+        let r = read_rule(text, i, names)?;
+        names -= 1;
+        let w = look(text, r);
         if w.kind != words::NAME {
-            return r;
+            return Ok(r);
         }
-        i = r.at;
-        names = rest;
+        i = r;
     }
-}
-
-fn smaller(a: usize, b: usize) -> usize
-    ensures { result ≡ min a b }
-{
-    if a < b {
-        return a;
-    }
-    b
 }
 
 // The word `end`, and no word after it.
-fn read_end(text: &[u8], at: usize) -> Out
+fn read_end(text: &[u8], at: usize) -> Result<(), Refusal>
     requires { at ≤ length text.now }
-    ensures { Decides result (ending (words_at text.now at)) }
+    ensures { Decides (done result) (ending (words_at text.now at)) }
 {
-    let e = expect_word(text, at, words::END);
-    if e.fault != 0 {
-        return e;
-    }
-    let w = look(text, e.at);
+    let e = expect_word(text, at, words::END)?;
+    let w = look(text, e);
     if w.kind == words::LAST {
-        return Out {
-            fault: 0,
-            at: w.start,
-            len: 0,
-        };
+        Ok(())
+    } else {
+        Err(refused(w))
     }
-    refused(w)
 }
 
 // What is left before any section.
@@ -1311,177 +1000,119 @@ fn no_section() -> State
     }
 }
 
-fn read_program(text: &[u8]) -> Out
-    ensures { Decides result (program (length text.now + 1) (words text.now)) }
+fn read_program(text: &[u8]) -> Result<(), Refusal>
+    ensures { Decides (done result) (program (length text.now + 1) (words text.now)) }
 {
-    let s = read_sections(text, 0, no_section());
-    let o = s.out;
-    if o.fault != 0 {
-        return o;
-    }
-    let e = expect_word(text, o.at, words::RULES);
-    if e.fault != 0 {
-        return e;
-    }
-    let m = smaller(base::RULES, s.room);
-    let r = read_rules(text, e.at, m);
-    if r.fault != 0 {
-        return r;
-    }
-    read_end(text, r.at)
+    let s = read_sections(text, 0, no_section())?;
+    let e = expect_word(text, s.at, words::RULES)?;
+    let m = base::RULES.min(s.room);
+    let r = read_rules(text, e, m)?;
+    read_end(text, r)
 }
 
 // Fault 9 at the empty part at the end of a text of n bytes.
-fn over_long(n: usize) -> Out
-    ensures { (result.fault ≡ 9) × (result.at ≡ n) × (result.len ≡ 0) }
+fn over_long(n: usize) -> Refusal
+    ensures { (fault_number result.fault ≡ 9) × (result.at ≡ n) × (result.len ≡ 0) }
 {
-    Out {
-        fault: base::OVER_LIMIT,
+    Refusal {
+        fault: Fault::OverLimit,
         at: n,
         len: 0,
     }
 }
 
-// The first fault 1, 2 or 9 of a text and its word, or fault 0: the text is a program.
+// That the text is a program, or its first fault 1, 2 or 9 and its word.
 #[inline(never)]
-pub fn check_syntax(text: &[u8]) -> Out
-    ensures { Decides result (parse text.now) }
+pub fn check_syntax(text: &[u8]) -> Result<(), Refusal>
+    ensures { Decides (done result) (parse text.now) }
 {
-    let n = text.len();
-    if base::TEXT_BYTES < n {
-        return over_long(n);
+    if base::TEXT_BYTES < text.len() {
+        return Err(over_long(text.len()));
     }
     read_program(text)
 }
 
 // A line of a common part's list, where `left` more names may be declared: a choice rule, `>>`, its type, a semicolon.
-fn read_head(text: &[u8], at: usize, left: usize) -> Out
+fn read_head(text: &[u8], at: usize, left: usize) -> Result<usize, Refusal>
     requires { at ≤ length text.now }
-    ensures { AHead text.now at left result }
+    ensures { AHead text.now at left (out result) }
 {
-    let o = read_one_name(text, at, left);
-    if o.fault != 0 {
-        return o;
-    }
-    let e = expect_word(text, o.at, words::TWICE);
-    if e.fault != 0 {
-        return e;
-    }
-    let g = read_name(text, e.at);
-    if g.fault != 0 {
-        return g;
-    }
-    expect_word(text, g.at, words::SEMICOLON)
+    let o = read_one_name(text, at, left)?;
+    let e = expect_word(text, o, words::TWICE)?;
+    let g = read_name(text, e)?;
+    expect_word(text, g, words::SEMICOLON)
 }
 
 // The lines of the list: there may be none.
-fn read_heads(text: &[u8], at: usize, left: usize) -> Out
+fn read_heads(text: &[u8], at: usize, left: usize) -> Result<usize, Refusal>
     requires { at ≤ length text.now }
-    ensures { Reads text.now at at (λ k. some_heads k left) result }
+    ensures { Reads text.now at at (λ k. some_heads k left) (out result) }
 {
     let mut i = at;
     let mut names = left;
+    // no range: what is read says where the next begins
     loop {
         let w = look(text, i);
         if w.kind != words::NAME {
-            return Out {
-                fault: 0,
-                at: i,
-                len: 0,
-            };
+            return Ok(i);
         }
-        let r = read_head(text, i, names);
-        if r.fault != 0 {
-            return r;
-        }
-        let rest = names - 1;
-        i = r.at;
-        names = rest;
+        i = read_head(text, i, names)?;
+        names -= 1;
     }
 }
 
 // A common part up to its word `end`, and how many names its sections leave.
-fn read_shared(text: &[u8]) -> Counted
+fn read_shared(text: &[u8]) -> Result<Counted, Refusal>
     ensures { Shares text.now result }
 {
-    let s = read_sections(text, 0, no_section());
-    let o = s.out;
-    if o.fault != 0 {
-        return s;
-    }
-    let e = expect_word(text, o.at, words::RULES);
-    if e.fault != 0 {
-        return Counted { out: e, room: 0 };
-    }
-    let left = s.room;
-    let m = smaller(base::RULES, left);
-    let h = read_heads(text, e.at, m);
-    Counted { out: h, room: left }
-}
-
-fn read_common(text: &[u8]) -> Counted
-    ensures { Settles (Listed text.now result.out.at result.room) result.out (read_common text.now) }
-{
-    let s = read_shared(text);
-    let o = s.out;
-    if o.fault != 0 {
-        return s;
-    }
-    let w = look(text, o.at);
-    let e = read_end(text, o.at);
-    if e.fault != 0 {
-        return Counted { out: e, room: 0 };
-    }
-    let r = Out {
-        fault: 0,
-        at: w.start,
-        len: 0,
-    };
-    Counted {
-        out: r,
+    let s = read_sections(text, 0, no_section())?;
+    let e = expect_word(text, s.at, words::RULES)?;
+    let m = base::RULES.min(s.room);
+    let h = read_heads(text, e, m)?;
+    Ok(Counted {
+        at: h,
         room: s.room,
-    }
+    })
 }
 
-fn read_part(text: &[u8], left: usize) -> Out
-    ensures { Settles (RulesAt text.now left result.at) result (read_part left text.now) }
+fn read_common(text: &[u8]) -> Result<Counted, Refusal>
+    ensures { SettlesCommon text.now result (read_common text.now) }
 {
-    let k = expect_word(text, 0, words::RULES);
-    if k.fault != 0 {
-        return k;
-    }
-    let m = smaller(base::RULES, left);
-    let r = read_rules(text, k.at, m);
-    if r.fault != 0 {
-        return r;
-    }
-    let e = read_end(text, r.at);
-    if e.fault != 0 {
-        return e;
-    }
-    k
+    let s = read_shared(text)?;
+    let w = look(text, s.at);
+    read_end(text, s.at)?;
+    Ok(Counted {
+        at: w.start,
+        room: s.room,
+    })
 }
 
-// The first fault 1, 2 or 9 of a common part and its word. Or fault 0: `at` is the start of its word `end`, and `room` how many names its sections leave
-// for the rules.
-pub fn check_common(text: &[u8]) -> Counted
-    ensures { Settles (Listed text.now result.out.at result.room) result.out (unless_long text.now (read_common text.now)) }
+fn read_part(text: &[u8], left: usize) -> Result<usize, Refusal>
+    ensures { SettlesPart text.now left result (read_part left text.now) }
 {
-    let n = text.len();
-    if base::TEXT_BYTES < n {
-        let r = over_long(n);
-        return Counted { out: r, room: 0 };
+    let k = expect_word(text, 0, words::RULES)?;
+    let m = base::RULES.min(left);
+    let r = read_rules(text, k, m)?;
+    read_end(text, r)?;
+    Ok(k)
+}
+
+// The start of a common part's word `end`, and how many names its sections leave for the rules; or its first fault 1, 2 or 9 and its word.
+pub fn check_common(text: &[u8]) -> Result<Counted, Refusal>
+    ensures { SettlesCommon text.now result (unless_long text.now (read_common text.now)) }
+{
+    if base::TEXT_BYTES < text.len() {
+        return Err(over_long(text.len()));
     }
     read_common(text)
 }
 
-// The first fault 1, 2 or 9 of a further part, where `left` names may be declared, and its word. Or fault 0: `at` is the place right behind its word `rules`.
-pub fn check_part(text: &[u8], left: usize) -> Out
-    ensures { Settles (RulesAt text.now left result.at) result (unless_long text.now (read_part left text.now)) }
+// The place right behind the word `rules` of a further part, where `left` names may be declared; or its first fault 1, 2 or 9 and its word.
+pub fn check_part(text: &[u8], left: usize) -> Result<usize, Refusal>
+    ensures { SettlesPart text.now left result (unless_long text.now (read_part left text.now)) }
 {
-    let n = text.len();
-    if base::TEXT_BYTES < n {
-        return over_long(n);
+    if base::TEXT_BYTES < text.len() {
+        return Err(over_long(text.len()));
     }
     read_part(text, left)
 }

@@ -8,10 +8,15 @@ use native.Mathlib.Nat.{add-zero}
 use native.Mathlib.Omega.{arith}
 use lib.ListN.{length, drop, set, length-append}
 use lib.Seq.{sets, length-sets, sets-eq, set_out}
+use Rattle.std.specs.Prelude.{Option as Answer, Some, None, IfSome, unwrap_or}
 use Rattle.cells.specs.Cells.{plain_cells, selector_cells}
 use Rattle.program.specs.Program.{Plain, match, any, emit, error, exit, call, back, give, update, update_with, Selector, by_token, by_rule, by_operation, by_operation_with}
 use Rattle.resolver.specs.Parts.{operation_cells}
 use Rattle.resolver.specs.Resolved.{Appends}
+
+pub small-value : (o : Answer ℕ) → unwrap_or o 0 < 65536 → IfSome o (λ v. v < 65536)
+small-value None h = tt
+small-value (Some v) h = h
 
 side : (a b : ℕ) → (a ≤ b) ⊎ (b < a)
 side zero b = inl (omega arith)

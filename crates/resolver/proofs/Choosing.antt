@@ -18,13 +18,13 @@ use Rattle.resolver.proofs.Appending.{appends-length}
 use Rattle.resolver.proofs.Looking.{looks-good, looks-wrong, row-about, rule-about, after-good}
 use Rattle.resolver.proofs.Outcomes.{by-operation-missing, by-operation-update, by-operation-rest, by-rule-missing, by-rule-procedure, by-rule-rest}
 use Rattle.resolver.proofs.Rests.{Fails, ends_by, fail-ends, fails-here, fails-after, parameter-fails, parameter-good, parameter-words}
-use Rattle.resolver.specs.declared.Parameter.{Parameter}
 use Rattle.resolver.specs.declared.Selected.{Selected}
-use Rattle.resolver.specs.Parts.{Lies, NameIn, if_there, operation_cells, ParameterDone, Chose, Balked, SelectorEnds, ChoiceDone, by_rule_of, by_operation_of, chooses_of}
+use Rattle.resolver.specs.Parts.{ParameterTold, Lies, NameIn, if_there, operation_cells, ParameterDone, Chose, Balked, SelectorEnds, ChoiceDone, by_rule_of, by_operation_of, chooses_of}
 use Rattle.resolver.specs.Resolved.{Appends, ended, SelectorDone}
 use Rattle.scanner.specs.Next.{Next, as_word}
 use Rattle.scanner.specs.declared.WordAt.{WordAt}
-use Rattle.symbols.specs.Rows.{held, word_of, decl_at, operation_in, rule_in, Looks}
+use Rattle.symbols.proofs.Numbered.{Numbered}
+use Rattle.symbols.specs.Rows.{held, word_of, decl_at, operation_in, rule_in}
 use Rattle.syntax.specs.Written as written
 use Rattle.syntax.specs.Written.{Program}
 use Rattle.words.specs.Words.{Word, words_at}
@@ -66,7 +66,7 @@ module _ {A : Type 0} {In : List Word → List Word → A → Type 0} {outcome :
 -- A choice rule
 
 module _ {text rows : List ℕ} {n at fl row : ℕ} {cs : List ℕ} {c : ℕ} {r : Selected} (w : WordAt) (h : Next text at w) (inside : at ≤ length text)
-    (looks : Looks fl row (rule_in (held text rows n) (as_word text w))) where
+    (looks : Numbered fl row (rule_in (held text rows n) (as_word text w))) where
   pub rule-balks : (fl ≡ 0 → ⊥) → Balked fl w.start w.len r → ChoiceDone NameIn by_rule_of text rows n at cs c cs r
   rule-balks z s = balks s z (λ p names rs ag u ws t.
       fails-here text w (h.inside inside) (ap (by_rule_of p names rs) (took-here text at 257 w u ws (omega arith) h t).word
@@ -103,7 +103,7 @@ unfolding absent_cell
 choosing-absent op none = refl
 choosing-absent op (some v) = refl
 
-module _ {text rows : List ℕ} {n : ℕ} {cs : List ℕ} {c : ℕ} {r : Selected} {q : Parameter} (row class : ℕ) (w : WordAt)
+module _ {text rows : List ℕ} {n : ℕ} {cs : List ℕ} {c : ℕ} {r : Selected} {q : ParameterTold} (row class : ℕ) (w : WordAt)
     (d : ParameterDone text rows n w.next (as_word text w) (members_of (held text rows n) (decl_at text rows row).second) q) where
   pub with-balks : (q.fault ≡ 0 → ⊥) → Balked q.fault q.at q.len r → ChoiceDone ConstantIn (chooses_of text rows n row (as_word text w) class) text rows n w.next cs c cs r
   with-balks x s = balks s x (λ p names rs ag o ws t. fails-after (λ v. good (record { by = choosing (decl_at text rows row).value v; labels = knowns_in class (held text rows n) })) (parameter-fails (d.done p names rs ag o ws t) x))
@@ -119,7 +119,7 @@ module _ {text rows : List ℕ} {n : ℕ} {cs : List ℕ} {c : ℕ} {r : Selecte
     absent = choosing-absent (get_or rows (8 * row + 1) 0) (if_there q.there q.value);
   })
 
-module _ {text rows : List ℕ} {n fl row : ℕ} {cs : List ℕ} {c : ℕ} {r : Selected} (w : WordAt) (lies : Lies text w) (looks : Looks fl row (operation_in (held text rows n) (as_word text w))) where
+module _ {text rows : List ℕ} {n fl row : ℕ} {cs : List ℕ} {c : ℕ} {r : Selected} (w : WordAt) (lies : Lies text w) (looks : Numbered fl row (operation_in (held text rows n) (as_word text w))) where
   pub operation-balks : (fl ≡ 0 → ⊥) → Balked fl w.start w.len r → ChoiceDone ConstantIn (λ p names rs. by_operation_of p names rs (as_word text w)) text rows n w.next cs c cs r
   operation-balks z s = balks s z (λ p names rs ag o ws t.
       fails-here text w lies.inside (by-operation-missing text rows n ag (as_word text w) o fl (looks-wrong (row-about 6 (held text rows n) (as_word text w)) looks z)))

@@ -1,16 +1,18 @@
 -- Laws of labels: one label, and the labels from a place on by the first of them.
-use mathlib.Core.Bool.{Bool, true, false}
+use mathlib.Core.Bool.{Bool, true, false, ◌||◌}
 use mathlib.Core.List.{List, [], ◌∷◌, ◌++◌, append_assoc, append-nil}
 use mathlib.Core.Logic.{◌⊎◌, inl, inr}
 use mathlib.Core.Path.{◌≡◌, refl, sym, ap, ◌∙◌}
 use Prim.Native.Nat.{ℕ, zero, suc, ◌+◌, ◌<◌, ◌≤◌}
 use native.Mathlib.Numerals.{add-one}
 use native.Mathlib.Omega.{arith}
-use borrow.Author.Tests.{eq-eqb, ne_eqb}
+use borrow.Author.Tests.{eq-eqb, ne_eqb, eqb-true}
 use lib.Dec.{eqb}
 use lib.ListN.{length, get_or, take, set, length-set}
 use lib.Seq.{take-suc, take-suc-set}
 use Rattle.std.specs.Prelude.{if◌then◌else◌}
+use Rattle.std.specs.List.{list_any}
+use Rattle.base.specs.Bools.{same}
 use Rattle.base.specs.Common.{member}
 use Rattle.declarations.specs.Decls.{Decl, Agrees, knowns_in, lookup_in}
 use Rattle.declarations.proofs.Uses.{uses-lookup}
@@ -20,17 +22,28 @@ use Rattle.names.specs.Resolve.{labels_of}
 use Rattle.places.proofs.Heres.{took-here, took-kind, not-here, reference-kind, reference-here}
 use Rattle.resolver.proofs.Looking.{looks-good, looks-wrong, lookup-about, after-good, after-wrong}
 use Rattle.resolver.proofs.Rests.{Fails, fails-here, fails-after, fails_by}
-use Rattle.resolver.specs.declared.Label.{Label}
 use Rattle.resolver.specs.declared.Labels.{Labels}
-use Rattle.resolver.specs.Parts.{Mislabel, label_of, LabelEnds, named, unnamed, LabelDone}
+use Rattle.resolver.specs.Parts.{LabelTold, Mislabel, label_of, LabelEnds, named, unnamed, LabelDone}
 use Rattle.resolver.specs.Resolved.{LabelsEnd, labelled, mislabelled, LabelsDone}
 use Rattle.scanner.specs.Next.{Next, as_word}
 use Rattle.scanner.specs.declared.WordAt.{WordAt}
-use Rattle.symbols.specs.Rows.{held, Looks}
+use Rattle.symbols.proofs.Numbered.{Numbered}
+use Rattle.symbols.specs.Rows.{held}
 use Rattle.syntax.specs.Written.{Program}
 use Rattle.words.specs.Words.{Word, words_at}
 
 -- Members
+
+-- what a slice's search says
+pub seen-any : (v : ℕ) (xs : List ℕ) → list_any (λ y. eqb y v) xs ≡ member v xs
+seen-any v [] = refl
+seen-any v (x ∷ xs) = rw (seen-any v xs, turned) (go (eqb v x)) where
+  turned : eqb x v ≡ eqb v x
+  turned = same (eqb x v) (eqb v x) (λ e. eq-eqb v x (sym (eqb-true x v e))) (λ e. eq-eqb x v (sym (eqb-true v x e)))
+
+  go : (b : Bool) → (b || member v xs) ≡ (if b then true else member v xs)
+  go true = refl
+  go false = refl
 
 pub member-end : (v : ℕ) (xs : List ℕ) (x : ℕ) → member v (xs ++ (x ∷ [])) ≡ (if eqb v x then true else member v xs)
 member-end v [] x = refl
@@ -68,7 +81,7 @@ seen_end v i used seen q e = ap (λ (k : ℕ). member v (take k seen)) (sym q) �
 
 -- One label
 
-module _ {text rows : List ℕ} {n at used : ℕ} {seen : List ℕ} {r : Label} (class : ℕ) (w : WordAt) (h : Next text at w) where
+module _ {text rows : List ℕ} {n at used : ℕ} {seen : List ℕ} {r : LabelTold} (class : ℕ) (w : WordAt) (h : Next text at w) where
   pub label-failed : {f : ℕ} → Mislabel f w r → (f ≡ 0 → ⊥) → (used < length seen → (u : Word) (ws : List Word) → Reference (words_at text at) u ws → Fails f w.start w.len (label_of (held text rows n) class (take used seen) u))
       → LabelDone text rows n at class seen used r
   label-failed {f} m z k = record {
@@ -92,14 +105,14 @@ module _ {text rows : List ℕ} {n at used : ℕ} {seen : List ℕ} {r : Label} 
   pub label-full : length seen ≤ used → Mislabel 2 w r → LabelDone text rows n at class seen used r
   label-full q m = label-failed m (λ e. omega arith) (λ b u ws t. absurd (omega arith))
 
-label-found : (text rows : List ℕ) (n class used : ℕ) (seen : List ℕ) (w : WordAt) (b : Bool) {fl v : ℕ} → Looks fl v (lookup_in (held text rows n) class (as_word text w)) → fl ≡ 0 → member v (take used seen) ≡ b
+label-found : (text rows : List ℕ) (n class used : ℕ) (seen : List ℕ) (w : WordAt) (b : Bool) {fl v : ℕ} → Numbered fl v (lookup_in (held text rows n) class (as_word text w)) → fl ≡ 0 → member v (take used seen) ≡ b
     → label_of (held text rows n) class (take used seen) (as_word text w) ≡ ◌>>=◌ (fault_if b 6 (as_word text w)) (λ _. good v)
 label-found text rows n class used seen w b {fl} {v} looks z e =
     after-good (λ v. ◌>>=◌ (fault_if (member v (take used seen)) 6 (as_word text w)) (λ _. good v)) v (looks-good looks z)
     ∙ ap (λ (b : Bool). ◌>>=◌ (fault_if b 6 (as_word text w)) (λ _. good v)) e
 
-module _ {text rows : List ℕ} {n at fl v used : ℕ} {seen : List ℕ} {r : Label} (class : ℕ) (w : WordAt) (h : Next text at w) (inside : at ≤ length text)
-    (looks : Looks fl v (lookup_in (held text rows n) class (as_word text w))) where
+module _ {text rows : List ℕ} {n at fl v used : ℕ} {seen : List ℕ} {r : LabelTold} (class : ℕ) (w : WordAt) (h : Next text at w) (inside : at ≤ length text)
+    (looks : Numbered fl v (lookup_in (held text rows n) class (as_word text w))) where
   pub label-stops : (fl ≡ 0 → ⊥) → Mislabel fl w r → LabelDone text rows n at class seen used r
   label-stops z m = label-failed class w h m z (λ b u ws t.
       fails-here text w (h.inside inside) (ap (label_of (held text rows n) class (take used seen)) (reference-here text at w u ws h t).word
@@ -120,15 +133,15 @@ module _ {text rows : List ℕ} {n at fl v used : ℕ} {seen : List ℕ} {r : La
       ends : {ws : List Word} {o : Checked ℕ} → o ≡ good v → ws ≡ words_at text w.next → LabelEnds text ws r o
       ends e s = rw e (named f x (s ∙ ap (words_at text) (sym a)))
 
-pub label-fails : {text : List ℕ} {ws : List Word} {l : Label} {m : Checked ℕ} → LabelEnds text ws l m → (l.fault ≡ 0 → ⊥) → Fails l.fault l.at l.len m
+pub label-fails : {text : List ℕ} {ws : List Word} {l : LabelTold} {m : Checked ℕ} → LabelEnds text ws l m → (l.fault ≡ 0 → ⊥) → Fails l.fault l.at l.len m
 label-fails (named e q s) z = absurd (z e)
 label-fails (unnamed {n} {w} e q a l) z = record { word = w; is = ap (λ (k : ℕ). wrong k w) (sym e); at = a; len = l }
 
-pub label-good : {text : List ℕ} {ws : List Word} {l : Label} {m : Checked ℕ} → LabelEnds text ws l m → l.fault ≡ 0 → m ≡ good l.value
+pub label-good : {text : List ℕ} {ws : List Word} {l : LabelTold} {m : Checked ℕ} → LabelEnds text ws l m → l.fault ≡ 0 → m ≡ good l.value
 label-good (named e q s) z = ap good (sym q)
 label-good (unnamed e q a l) z = absurd (q (sym e ∙ z))
 
-pub label-words : {text : List ℕ} {ws : List Word} {l : Label} {m : Checked ℕ} → LabelEnds text ws l m → l.fault ≡ 0 → ws ≡ words_at text l.at
+pub label-words : {text : List ℕ} {ws : List Word} {l : LabelTold} {m : Checked ℕ} → LabelEnds text ws l m → l.fault ≡ 0 → ws ≡ words_at text l.at
 label-words (named e q s) z = s
 label-words (unnamed e q a l) z = absurd (q (sym e ∙ z))
 
@@ -169,7 +182,7 @@ labels-extend {seen = seen} {seen'} {used} {r} v h (labelled {vs} f s u t) =
     labelled {vs = v ∷ vs} f s (omega (arith, u)) (t ∙ ap (λ (l : List ℕ). l ++ vs) e ∙ append_assoc (take used seen) (v ∷ []) vs)
 labels-extend v h (mislabelled f z a l) = mislabelled f z a l
 
-module _ {text rows : List ℕ} {n at class used : ℕ} {seen : List ℕ} {l : Label} {r : Labels} (d : LabelDone text rows n at class seen used l) where
+module _ {text rows : List ℕ} {n at class used : ℕ} {seen : List ℕ} {l : LabelTold} {r : Labels} (d : LabelDone text rows n at class seen used l) where
   pub labels-stop : (l.fault ≡ 0 → ⊥) → r.fault ≡ l.fault → r.at ≡ l.at → r.len ≡ l.len → LabelsDone text rows n at class seen used seen r
   labels-stop z f a b = record {
     same = refl;

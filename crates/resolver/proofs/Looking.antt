@@ -3,21 +3,24 @@ use mathlib.Core.Bool.{Bool, true, false}
 use mathlib.Core.List.{List}
 use mathlib.Core.Option.{Option, none, some}
 use mathlib.Core.Path.{◌≡◌, refl, sym, ap, ◌∙◌}
-use Prim.Native.Nat.{ℕ, ◌+◌, ◌<◌, ◌≤◌}
+use Prim.Native.Nat.{ℕ, ◌+◌}
 use native.Mathlib.Omega.{arith}
 use borrow.Author.Tests.{eq-eqb, ne_eqb}
 use lib.ListN.{length}
-use Rattle.std.specs.Prelude.{if◌then◌else◌}
+use Rattle.std.specs.Prelude.{if◌then◌else◌, Some, None, Ok, Err}
 use Rattle.base.specs.Common.{given}
-use Rattle.declarations.specs.Decls.{Decl, Agrees, knowns_in, index_of, decl_of, type_class, class_named, operation_from, rule_from, mapped, elsewhere_in, lookup_in, entries_of, operators_from}
+use Rattle.declarations.specs.Decls.{Decl, Agrees, knowns_in, index_of, decl_of, class_named, operation_from, rule_from, mapped, elsewhere_in, lookup_in, entries_of, operators_from}
 use Rattle.declarations.proofs.Uses.{uses-elsewhere}
 use Rattle.names.specs.Known.{Checked, good, wrong, ◌>>=◌, fault_if, KnownOperation, KnownRule, Names, find, find_operation, find_rule, elsewhere}
 use Rattle.names.specs.Resolve.{operation_of, rule_named, ranked_of}
 use Rattle.names.specs.Uses.{lowest_of, pairs_of}
 use Rattle.program.specs.Made.{levels_of}
 use Rattle.program.specs.Program.{Plain, call}
-use Rattle.symbols.specs.Rows.{word_of, option_of, row_in, operation_in, operators_row, rule_in, gives_of, Looks, found, missing}
-use Rattle.symbols.specs.Search.{Tells, there, nowhere}
+use Rattle.base.specs.Faults.{fault_number}
+use Rattle.base.specs.declared.Fault.{Fault}
+use Rattle.symbols.proofs.Numbered.{Numbered, found, missing, numbered}
+use Rattle.symbols.proofs.Searches.{answer-some, answer-none}
+use Rattle.symbols.specs.Rows.{answer_of, Looks, word_of, option_of, row_in, operation_in, operators_row, rule_in, gives_of}
 use Rattle.syntax.specs.Written.{Program}
 use Rattle.words.specs.Words.{Word}
 
@@ -28,11 +31,18 @@ pub data About {A : Type 0} (w : Word) : Checked A → Type 0 where
   fine : {a : A} → About w (good a)
   faulty : {n : ℕ} → About w (wrong n w)
 
-pub looks-good : {f v : ℕ} {m : Checked ℕ} → Looks f v m → f ≡ 0 → m ≡ good v
+-- a lookup's answer in numbers
+pub found-row : {v : ℕ} {m : Checked ℕ} → Looks (Ok v) m → Numbered 0 v m
+found-row l = numbered l (refl, refl)
+
+pub not-found : {f : Fault} {m : Checked ℕ} → Looks (Err f) m → Numbered (fault_number f) 0 m
+not-found l = numbered l (refl, refl)
+
+pub looks-good : {f v : ℕ} {m : Checked ℕ} → Numbered f v m → f ≡ 0 → m ≡ good v
 looks-good (found e q) z = ap good (sym q)
 looks-good (missing e q) z = absurd (q (sym e ∙ z))
 
-pub looks-wrong : {f v : ℕ} {w : Word} {m : Checked ℕ} → About w m → Looks f v m → (f ≡ 0 → ⊥) → m ≡ wrong f w
+pub looks-wrong : {f v : ℕ} {w : Word} {m : Checked ℕ} → About w m → Numbered f v m → (f ≡ 0 → ⊥) → m ≡ wrong f w
 looks-wrong fine (found e q) z = absurd (z e)
 looks-wrong {w = w} faulty (missing e q) z = ap (λ (k : ℕ). wrong k w) (sym e)
 
@@ -141,30 +151,13 @@ module _ {p : Program} {names : Names} {rs : List KnownRule} {ds : List Decl} (a
 
 -- The class of a type
 
-pub class-there : (ds : List Decl) (w : List ℕ) (i : ℕ) → Tells i (index_of 5 w 0 ds) → i < 65536 → 8 + i ≡ class_named ds w
+pub class-there : (ds : List Decl) (w : List ℕ) (i : ℕ) → Some i ≡ answer_of (index_of 5 w 0 ds) → 8 + i ≡ class_named ds w
 unfolding class_named
-class-there ds w i t h = go (index_of 5 w 0 ds) t
-  where
-    go : (x : Option ℕ) → Tells i x → 8 + i ≡ type_class x
-    go none (nowhere e) = absurd (omega arith)
-    go (some v) (there e q) = ap (λ (k : ℕ). 8 + k) e
+class-there ds w i e = rw (answer-some (index_of 5 w 0 ds) e) refl
 
-pub class-nowhere : (ds : List Decl) (w : List ℕ) (i : ℕ) → Tells i (index_of 5 w 0 ds) → 65536 ≤ i → 0 ≡ class_named ds w
+pub class-nowhere : (ds : List Decl) (w : List ℕ) → None ≡ answer_of (index_of 5 w 0 ds) → 0 ≡ class_named ds w
 unfolding class_named
-class-nowhere ds w i t h = go (index_of 5 w 0 ds) t
-  where
-    go : (x : Option ℕ) → Tells i x → 0 ≡ type_class x
-    go none (nowhere e) = refl
-    go (some v) (there e q) = absurd (omega arith)
-
--- a value that was found, or none
-pub tells-there : {i : ℕ} {x : Option ℕ} → Tells i x → i < 65536 → x ≡ some i
-tells-there (there e q) h = ap some (sym e)
-tells-there (nowhere e) h = absurd (omega arith)
-
-pub tells_none : {i : ℕ} {x : Option ℕ} → Tells i x → 65536 ≤ i → x ≡ none
-tells_none (there e q) h = absurd (omega arith)
-tells_none (nowhere e) h = refl
+class-nowhere ds w e = rw (answer-none (index_of 5 w 0 ds) e) refl
 
 -- Declarations of the row
 

@@ -25,7 +25,8 @@ use Rattle.resolver.specs.Parts.{Lies, Went, Stopped, RestDone, RankedIn, ranked
 use Rattle.resolver.specs.Resolved.{Appends, ended}
 use Rattle.scanner.specs.Next.{Next, as_word}
 use Rattle.scanner.specs.declared.WordAt.{WordAt}
-use Rattle.symbols.specs.Rows.{held, number_of, operators_row, rule_in, Looks}
+use Rattle.symbols.proofs.Numbered.{Numbered}
+use Rattle.symbols.specs.Rows.{held, number_of, operators_row, rule_in}
 use Rattle.syntax.specs.Written.{Program}
 use Rattle.words.specs.Words.{Word, words_at}
 
@@ -69,13 +70,13 @@ counted : {cs cs' xs : List ℕ} {c l l' : ℕ} → l' ≡ l → Appends cs c xs
 counted e q = rw e q
 
 module _ {text rows : List ℕ} {n fs i : ℕ} {cs : List ℕ} {c : ℕ} {r : Built} (w s : WordAt) (lies : Lies text w) (h : Next text w.next s)
-    (section : Looks fs i (operators_row (held text rows n) (as_word text s))) where
+    (section : Numbered fs i (operators_row (held text rows n) (as_word text s))) where
   pub ranked-stops : (fs ≡ 0 → ⊥) → Stopped fs s.start s.len r → RestDone RankedIn (by_rank (as_word text w)) text rows n w.next cs c cs r
   ranked-stops z q = stops q z (λ p names rs ag x ws t.
       fails-here text s (h.inside lies.high) (ap (λ u. ranked_of p names rs (as_word text w) u x.1) (section-word s x h t)
       ∙ ranked-nowhere text rows n ag (as_word text w) (as_word text s) x.1 fs (looks-wrong (row-about 600 (held text rows n) (as_word text s)) section z)))
 
-  module _ {fo row : ℕ} (a o : WordAt) (k : Next text s.next a) (m : Next text a.next o) (operand : Looks fo row (rule_in (held text rows n) (as_word text o))) (z : fs ≡ 0) where
+  module _ {fo row : ℕ} (a o : WordAt) (k : Next text s.next a) (m : Next text a.next o) (operand : Numbered fo row (rule_in (held text rows n) (as_word text o))) (z : fs ≡ 0) where
     pub operand-stops : (fo ≡ 0 → ⊥) → Stopped fo o.start o.len r → RestDone RankedIn (by_rank (as_word text w)) text rows n w.next cs c cs r
     operand-stops y q = stops q y (λ p names rs ag x ws t.
         fails-here text o (inside-o w s a o lies h k m) (words w s a o lies h k m p names rs x t

@@ -18,18 +18,19 @@ use Rattle.names.specs.Resolve.{updating, parameter_of, update_of, match_of, giv
 use Rattle.places.proofs.Heres.{Same, took-here, took-kind, not-here, reference-kind, reference-here}
 use Rattle.program.specs.Past.{plain_past, is_exit}
 use Rattle.program.specs.Program.{Plain, match, any, exit, call, back, give}
-use Rattle.resolver.proofs.Looking.{looks-good, looks-wrong, after-good, after-wrong, lookup-about, row-about, rule-about, tells-there, tells_none, gives_none, gives_some}
+use Rattle.resolver.proofs.Looking.{looks-good, looks-wrong, after-good, after-wrong, lookup-about, row-about, rule-about, gives_none, gives_some}
 use Rattle.resolver.proofs.Outcomes.{give-is, parameter-is, named-token, named_other, update-missing, update-choice, update-rest, call-missing, call-valued, call-rule, second_none, second-some}
 use Rattle.resolver.proofs.Appending.{appends-length}
 use Rattle.resolver.specs.declared.Built.{Built}
 use Rattle.resolver.specs.declared.Done.{Done}
-use Rattle.resolver.specs.declared.Parameter.{Parameter}
-use Rattle.resolver.specs.Parts.{Lies, Went, Stopped, Misfit, PlainEnds, RestDone, NothingIn, ReferenceIn, NameIn, valued, Sends, named_of, call_of, any_of, exit_of, if_there, operation_cells, ParameterEnds, supplied, refused, ValueDone, ParameterDone}
+use Rattle.resolver.specs.Parts.{ParameterTold, Lies, Went, Stopped, Misfit, PlainEnds, RestDone, NothingIn, ReferenceIn, NameIn, valued, Sends, named_of, call_of, any_of, exit_of, if_there, operation_cells, ParameterEnds, supplied, refused, ValueDone, ParameterDone}
 use Rattle.resolver.specs.Resolved.{Appends, Ends, ended, failed}
 use Rattle.scanner.specs.Next.{Next, as_word}
 use Rattle.scanner.specs.declared.WordAt.{WordAt}
-use Rattle.symbols.specs.Rows.{held, word_of, decl_at, gives_of, operation_in, rule_in, Looks}
-use Rattle.symbols.specs.Search.{Tells}
+use Rattle.symbols.proofs.Numbered.{Numbered}
+use Rattle.symbols.specs.Rows.{answer_of, held, word_of, decl_at, gives_of, operation_in, rule_in}
+use Rattle.std.specs.Prelude.{Some, None}
+use Rattle.symbols.proofs.Searches.{answer-some, answer-none}
 use Rattle.syntax.specs.Written.{Constant, Program}
 use Rattle.words.specs.Words.{Word, words_at}
 
@@ -114,7 +115,7 @@ rest-by q h = record {
 -- A value of a class
 
 module _ {text rows : List ℕ} {n at fl v : ℕ} {cs : List ℕ} {c : ℕ} {r : Built} (class : ℕ) (f : ℕ → Plain) (w : WordAt) (h : Next text at w) (inside : at ≤ length text)
-    (looks : Looks fl v (lookup_in (held text rows n) class (as_word text w))) where
+    (looks : Numbered fl v (lookup_in (held text rows n) class (as_word text w))) where
   pub sent-stops : (fl ≡ 0 → ⊥) → Stopped fl w.start w.len r → RestDone ReferenceIn (λ p names rs u. valued f (lookup_in (held text rows n) class u)) text rows n at cs c cs r
   sent-stops z s = stops s z (λ p names rs ag a ws t.
       let q : a ≡ as_word text w = (reference-here text at w a ws h t).word in
@@ -135,26 +136,26 @@ module _ {text rows : List ℕ} {n at fl v : ℕ} {cs : List ℕ} {c : ℕ} {r :
 
 -- Parameters
 
-pub parameter-fails : {text : List ℕ} {ws : List Word} {r : Parameter} {m : Checked (Option ℕ)} → ParameterEnds text ws r m → (r.fault ≡ 0 → ⊥) → Fails r.fault r.at r.len m
+pub parameter-fails : {text : List ℕ} {ws : List Word} {r : ParameterTold} {m : Checked (Option ℕ)} → ParameterEnds text ws r m → (r.fault ≡ 0 → ⊥) → Fails r.fault r.at r.len m
 parameter-fails (supplied e q t) z = absurd (z e)
 parameter-fails {r = r} (refused {n} {w} e q a l) z = record { word = w; is = ap (λ (k : ℕ). wrong k w) (sym e); at = a; len = l }
 
-pub parameter-good : {text : List ℕ} {ws : List Word} {r : Parameter} {m : Checked (Option ℕ)} → ParameterEnds text ws r m → r.fault ≡ 0 → m ≡ good (if_there r.there r.value)
+pub parameter-good : {text : List ℕ} {ws : List Word} {r : ParameterTold} {m : Checked (Option ℕ)} → ParameterEnds text ws r m → r.fault ≡ 0 → m ≡ good (if_there r.there r.value)
 parameter-good (supplied e q t) z = ap good q
 parameter-good (refused e q a l) z = absurd (q (sym e ∙ z))
 
-pub parameter-words : {text : List ℕ} {ws : List Word} {r : Parameter} {m : Checked (Option ℕ)} → ParameterEnds text ws r m → r.fault ≡ 0 → ws ≡ words_at text r.at
+pub parameter-words : {text : List ℕ} {ws : List Word} {r : ParameterTold} {m : Checked (Option ℕ)} → ParameterEnds text ws r m → r.fault ≡ 0 → ws ≡ words_at text r.at
 parameter-words (supplied e q t) z = t
 parameter-words (refused e q a l) z = absurd (q (sym e ∙ z))
 
-refuse : {text : List ℕ} {ws : List Word} {r : Parameter} {m : Checked (Option ℕ)} {f : ℕ} → r.fault ≡ f → (f ≡ 0 → ⊥) → Fails f r.at r.len m → ParameterEnds text ws r m
+refuse : {text : List ℕ} {ws : List Word} {r : ParameterTold} {m : Checked (Option ℕ)} {f : ℕ} → r.fault ≡ f → (f ≡ 0 → ⊥) → Fails f r.at r.len m → ParameterEnds text ws r m
 refuse e z h = rw h.is (refused e z h.at h.len)
 
-supply : {text : List ℕ} {ws : List Word} {r : Parameter} {m : Checked (Option ℕ)} {o : Option ℕ} → m ≡ good o → r.fault ≡ 0 → o ≡ if_there r.there r.value → ws ≡ words_at text r.at → ParameterEnds text ws r m
+supply : {text : List ℕ} {ws : List Word} {r : ParameterTold} {m : Checked (Option ℕ)} {o : Option ℕ} → m ≡ good o → r.fault ≡ 0 → o ≡ if_there r.there r.value → ws ≡ words_at text r.at → ParameterEnds text ws r m
 supply q e o t = rw q (supplied e o t)
 
-module _ {text rows : List ℕ} {n at fl v : ℕ} {r : Parameter} (class : ℕ) (w : WordAt) (h : Next text at w) (inside : at ≤ length text)
-    (looks : Looks fl v (lookup_in (held text rows n) class (as_word text w))) where
+module _ {text rows : List ℕ} {n at fl v : ℕ} {r : ParameterTold} (class : ℕ) (w : WordAt) (h : Next text at w) (inside : at ≤ length text)
+    (looks : Numbered fl v (lookup_in (held text rows n) class (as_word text w))) where
   pub value-stops : (fl ≡ 0 → ⊥) → r.fault ≡ fl → r.at ≡ w.start → r.len ≡ w.len → r.value ≡ 0 → ValueDone text rows n at class r
   value-stops z e a l q = record {
     low = λ g. absurd (z (sym e ∙ g));
@@ -180,7 +181,7 @@ module _ {text rows : List ℕ} {n at fl v : ℕ} {r : Parameter} (class : ℕ) 
   }
 
 -- behind the operation's name w, the next word k
-module _ {text rows : List ℕ} {n : ℕ} {r : Parameter} (row : ℕ) (w k : WordAt) (lies : Lies text w) (h : Next text w.next k) where
+module _ {text rows : List ℕ} {n : ℕ} {r : ParameterTold} (row : ℕ) (w k : WordAt) (lies : Lies text w) (h : Next text w.next k) where
   -- a parameter that is missing
   pub parameter-missing : (k.kind ≡ 40 → ⊥) → (get_or rows (8 * row + 5) 0 ≡ 0 → ⊥) → Misfit w.start w.len r
       → ParameterDone text rows n w.next (as_word text w) (members_of (held text rows n) (decl_at text rows row).second) r
@@ -296,7 +297,7 @@ unfolding is_exit
 updating-stays op none = refl
 updating-stays op (some v) = refl
 
-module _ {text rows : List ℕ} {n fl row : ℕ} {cs : List ℕ} {c : ℕ} {r : Built} (w : WordAt) (lies : Lies text w) (looks : Looks fl row (operation_in (held text rows n) (as_word text w))) where
+module _ {text rows : List ℕ} {n fl row : ℕ} {cs : List ℕ} {c : ℕ} {r : Built} (w : WordAt) (lies : Lies text w) (looks : Numbered fl row (operation_in (held text rows n) (as_word text w))) where
   pub update-stops : (fl ≡ 0 → ⊥) → Stopped fl w.start w.len r
       → RestDone ConstantIn (λ p names rs. update_of p names rs (as_word text w)) text rows n w.next cs c cs r
   update-stops z s = stops s z (λ p names rs ag d ws t.
@@ -307,7 +308,7 @@ module _ {text rows : List ℕ} {n fl row : ℕ} {cs : List ℕ} {c : ℕ} {r : 
   update-chooses z b y s = stops s (λ e. omega arith) (λ p names rs ag d ws t.
       fails-here text w lies.inside (update-choice text rows n ag (as_word text w) d row b (looks-good looks z) y))
 
-  module _ {q : Parameter} (z : fl ≡ 0) (b : row < n) (y : get_or rows (8 * row + 7) 0 ≡ 0)
+  module _ {q : ParameterTold} (z : fl ≡ 0) (b : row < n) (y : get_or rows (8 * row + 7) 0 ≡ 0)
       (d : ParameterDone text rows n w.next (as_word text w) (members_of (held text rows n) (decl_at text rows row).second) q) where
     pub update-misfits : (q.fault ≡ 0 → ⊥) → Stopped q.fault q.at q.len r
         → RestDone ConstantIn (λ p names rs. update_of p names rs (as_word text w)) text rows n w.next cs c cs r
@@ -330,19 +331,19 @@ module _ {text rows : List ℕ} {n fl row : ℕ} {cs : List ℕ} {c : ℕ} {r : 
 
 -- A token or an operation
 
-module _ {text rows : List ℕ} {n v : ℕ} {cs cs' : List ℕ} {c : ℕ} {r : Built} (w : WordAt) (tells : Tells v (find (as_word text w).text (knowns_in 1 (held text rows n)))) where
-  pub named-matches : v < 65536 → RestDone ConstantIn (λ p names rs. match_of p names rs v) text rows n w.next cs c cs' r
+module _ {text rows : List ℕ} {n : ℕ} {cs cs' : List ℕ} {c : ℕ} {r : Built} (w : WordAt) where
+  pub named-matches : {v : ℕ} → Some v ≡ answer_of (find (as_word text w).text (knowns_in 1 (held text rows n))) → RestDone ConstantIn (λ p names rs. match_of p names rs v) text rows n w.next cs c cs' r
       → RestDone ConstantIn (λ p names rs. named_of p names rs (as_word text w)) text rows n w.next cs c cs' r
-  named-matches h d = rest-by (λ p names rs ag o. named-token text rows n ag (as_word text w) o v (tells-there tells h)) d
+  named-matches {v} h d = rest-by (λ p names rs ag o. named-token text rows n ag (as_word text w) o v (answer-some _ h)) d
 
-  pub named-updates : 65536 ≤ v → RestDone ConstantIn (λ p names rs. update_of p names rs (as_word text w)) text rows n w.next cs c cs' r
+  pub named-updates : None ≡ answer_of (find (as_word text w).text (knowns_in 1 (held text rows n))) → RestDone ConstantIn (λ p names rs. update_of p names rs (as_word text w)) text rows n w.next cs c cs' r
       → RestDone ConstantIn (λ p names rs. named_of p names rs (as_word text w)) text rows n w.next cs c cs' r
-  named-updates h d = rest-by (λ p names rs ag o. named_other text rows n ag (as_word text w) o (tells_none tells h)) d
+  named-updates h d = rest-by (λ p names rs ag o. named_other text rows n ag (as_word text w) o (answer-none _ h)) d
 
 -- A call
 
 module _ {text rows : List ℕ} {n at fl row : ℕ} {cs : List ℕ} {c : ℕ} {r : Built} (w : WordAt) (h : Next text at w) (inside : at ≤ length text)
-    (looks : Looks fl row (rule_in (held text rows n) (as_word text w))) where
+    (looks : Numbered fl row (rule_in (held text rows n) (as_word text w))) where
   pub call-stops : (fl ≡ 0 → ⊥) → Stopped fl w.start w.len r → RestDone NameIn call_of text rows n at cs c cs r
   call-stops z s = stops s z (λ p names rs ag u ws t.
       fails-here text w (h.inside inside) (ap (call_of p names rs) (took-here text at 257 w u ws (omega arith) h t).word

@@ -1,7 +1,10 @@
 -- What the functions for the parts of an action promise: each part by its own derivation, behind the words that are read already.
 use Rattle.std.specs.Prelude.{Bool, true, false, List, [], ◌∷◌, ◌≡◌, ℕ, ◌+◌, ◌<◌, ◌≤◌, length, take, if◌then◌else◌}
 use Rattle.std.proofs.Math.Option.{Option, none, some}
+use Rattle.std.specs.Prelude.{Result, Ok, Err, is_some, unwrap_or}
 use Rattle.base.specs.Common.{member}
+use Rattle.base.specs.Faults.{fault_number}
+use Rattle.base.specs.declared.Refusal.{Refusal}
 use Rattle.cells.specs.Cells.{plain_cells, selector_cells, absent_cell}
 use Rattle.declarations.specs.Decls.{Decl, Agrees, knowns_in, lookup_in, members_of}
 use Rattle.grammar.specs.Derived.{Took, Reference, ConstantIn, ValueIn}
@@ -133,8 +136,20 @@ RankedDone w text rows n cs c cs' r = RestDone RankedIn (by_rank (as_word text w
 
 -- Parameters
 
+-- a parameter that was read, in numbers: the fault is 0 and it is there or not, or there is a fault at a word
+pub record ParameterTold : Type 0 where
+  pub fault : ℕ
+  pub at : ℕ
+  pub len : ℕ
+  pub there : Bool
+  pub value : ℕ
+
+abbrev pub parameter_told : Result Parameter Refusal → ParameterTold
+parameter_told (Ok p) = record { fault = 0; at = p.at; len = 0; there = is_some p.value; value = unwrap_or p.value 0 }
+parameter_told (Err e) = record { fault = fault_number e.fault; at = e.at; len = e.len; there = false; value = 0 }
+
 -- a parameter that is missing or extra, at this word
-pub record Misfit (i l : ℕ) (r : Parameter) : Type 0 where
+pub record Misfit (i l : ℕ) (r : ParameterTold) : Type 0 where
   pub fault : r.fault ≡ 5
   pub at : r.at ≡ i
   pub len : r.len ≡ l
@@ -149,13 +164,13 @@ unfoldable pub operation_cells : ℕ → Bool → ℕ → List ℕ
 operation_cells op false v = op ∷ []
 operation_cells op true v = op ∷ v ∷ []
 
-pub data ParameterEnds (text : List ℕ) (ws : List Word) (r : Parameter) : Checked (Option ℕ) → Type 0 where
+pub data ParameterEnds (text : List ℕ) (ws : List Word) (r : ParameterTold) : Checked (Option ℕ) → Type 0 where
   supplied : {o : Option ℕ} → r.fault ≡ 0 → o ≡ if_there r.there r.value → ws ≡ words_at text r.at → ParameterEnds text ws r (good o)
   refused : {n : ℕ} {w : Word} → r.fault ≡ n → (n ≡ 0 → ⊥) → r.at ≡ w.start → r.len ≡ length w.text
       → ParameterEnds text ws r (wrong n w)
 
 -- a parameter of the class and the `)` behind it
-pub record ValueDone (text rows : List ℕ) (n at class : ℕ) (r : Parameter) : Type 0 where
+pub record ValueDone (text rows : List ℕ) (n at class : ℕ) (r : ParameterTold) : Type 0 where
   pub low : r.fault ≡ 0 → at ≤ r.at
   pub high : r.fault ≡ 0 → r.at ≤ length text
   pub small : r.value < 65536
@@ -163,7 +178,7 @@ pub record ValueDone (text rows : List ℕ) (n at class : ℕ) (r : Parameter) :
       → ParameterEnds text ws' r (valued some (lookup_in (held text rows n) class c))
 
 -- the parameter of an operation that takes values of `takes`, behind the operation's name w
-pub record ParameterDone (text rows : List ℕ) (n from : ℕ) (w : Word) (takes : Option (List Known)) (r : Parameter) : Type 0 where
+pub record ParameterDone (text rows : List ℕ) (n from : ℕ) (w : Word) (takes : Option (List Known)) (r : ParameterTold) : Type 0 where
   pub low : r.fault ≡ 0 → from ≤ r.at
   pub high : r.fault ≡ 0 → r.at ≤ length text
   pub small : r.value < 65536
@@ -171,7 +186,7 @@ pub record ParameterDone (text rows : List ℕ) (n from : ℕ) (w : Word) (takes
       → (c : Option Constant) (ws : List Word) → ConstantIn (words_at text from) ws c → ParameterEnds text ws r (parameter_of p names rs w takes c)
 
 -- that of the operation w, which is declaration `row`
-abbrev pub OperandDone : WordAt → ℕ → List ℕ → List ℕ → ℕ → Parameter → Type 0
+abbrev pub OperandDone : WordAt → ℕ → List ℕ → List ℕ → ℕ → ParameterTold → Type 0
 OperandDone w row text rows n r =
     ParameterDone text rows n w.next (as_word text w) (members_of (held text rows n) (decl_at text rows row).second) r
 
@@ -226,8 +241,19 @@ ByOperationDone w text rows n cs c cs' r =
 
 -- Labels
 
+-- a label that was read, in numbers: the fault is 0, or there is a fault at a word
+pub record LabelTold : Type 0 where
+  pub fault : ℕ
+  pub at : ℕ
+  pub len : ℕ
+  pub value : ℕ
+
+abbrev pub label_told : Result Label Refusal → LabelTold
+label_told (Ok l) = record { fault = 0; at = l.at; len = 0; value = l.value }
+label_told (Err e) = record { fault = fault_number e.fault; at = e.at; len = e.len; value = 0 }
+
 -- a fault at the word w
-pub record Mislabel (f : ℕ) (w : WordAt) (r : Label) : Type 0 where
+pub record Mislabel (f : ℕ) (w : WordAt) (r : LabelTold) : Type 0 where
   pub fault : r.fault ≡ f
   pub at : r.at ≡ w.start
   pub len : r.len ≡ w.len
@@ -236,12 +262,12 @@ pub record Mislabel (f : ℕ) (w : WordAt) (r : Label) : Type 0 where
 abbrev pub label_of : List Decl → ℕ → List ℕ → Word → Checked ℕ
 label_of ds class seen w = ◌>>=◌ (lookup_in ds class w) (λ v. ◌>>=◌ (fault_if (member v seen) 6 w) (λ _. good v))
 
-pub data LabelEnds (text : List ℕ) (ws : List Word) (r : Label) : Checked ℕ → Type 0 where
+pub data LabelEnds (text : List ℕ) (ws : List Word) (r : LabelTold) : Checked ℕ → Type 0 where
   named : {v : ℕ} → r.fault ≡ 0 → r.value ≡ v → ws ≡ words_at text r.at → LabelEnds text ws r (good v)
   unnamed : {n : ℕ} {w : Word} → r.fault ≡ n → (n ≡ 0 → ⊥) → r.at ≡ w.start → r.len ≡ length w.text
       → LabelEnds text ws r (wrong n w)
 
-pub record LabelDone (text rows : List ℕ) (n at class : ℕ) (seen : List ℕ) (used : ℕ) (r : Label) : Type 0 where
+pub record LabelDone (text rows : List ℕ) (n at class : ℕ) (seen : List ℕ) (used : ℕ) (r : LabelTold) : Type 0 where
   pub moves : r.fault ≡ 0 → at < r.at
   pub high : r.fault ≡ 0 → r.at ≤ length text
   pub room : r.fault ≡ 0 → used < length seen

@@ -1,18 +1,20 @@
 // The parts of a rule that hold no actions: plain actions, selectors and labels, resolved and appended as cells.
 #![tactic(auto)]
 
-ghost use Rattle.std.specs.Prelude.{◌≡◌, List, [], ◌∷◌, ℕ, ◌+◌, ◌*◌, ◌<◌, ◌≤◌, length, get_or, take};
+ghost use Rattle.std.specs.Prelude.{◌≡◌, List, [], ◌∷◌, ℕ, ◌+◌, ◌*◌, ◌<◌, ◌≤◌, length, get_or, take, IfSome, is_some, unwrap_or};
 ghost use Rattle.base.specs.Common.{member};
+ghost use Rattle.base.specs.Faults.{fault_number};
 ghost use Rattle.declarations.specs.Decls.{class_named};
 ghost use Rattle.program.specs.Program.{Plain, emit, error};
 ghost use Rattle.resolver.specs.Parts.{Lies, Went, Stopped, RestDone, NameIn, Sends, MatchDone, UpdateDone, NamedDone, SentDone, call_of, GivenDone, GiveDone, AnyDone, ExitDone, RankedDone};
-ghost use Rattle.resolver.specs.Parts.{operation_cells, Misfit, ValueDone, OperandDone, Chose, Balked, ChoiceDone, by_rule_of, WithDone, ByOperationDone, Mislabel, LabelDone};
+ghost use Rattle.resolver.specs.Parts.{operation_cells, parameter_told, label_told, ValueDone, OperandDone, Chose, Balked, ChoiceDone, by_rule_of, WithDone, ByOperationDone, LabelDone};
 ghost use Rattle.resolver.specs.Resolved.{Appends, PlainDone, SelectorDone, LabelsDone};
 ghost use Rattle.scanner.specs.Next.{Next};
 ghost use Rattle.symbols.specs.Index.{Kept};
 ghost use Rattle.symbols.specs.Rows.{held};
 ghost use Rattle.symbols.specs.Search.{part};
 
+use base::{Fault, Refusal};
 use scanner::WordAt;
 
 // Where an action stands: among n declarations, in a cycle or not, in a rule that gives values of the class (0: in a procedure rule).
@@ -72,23 +74,18 @@ pub struct Labels {
     pub used: usize,
 }
 
-// A label's value.
-#[derive(Clone, Copy)]
+// A label's value, and the place behind it.
+#[derive(Clone, Copy, Debug, PartialEq, Eq)]
 pub struct Label {
-    pub fault: u16,
     pub at: usize,
-    pub len: usize,
     pub value: u16,
 }
 
-// An operation's parameter, if it is there.
-#[derive(Clone, Copy)]
+// An operation's parameter, if it is there, and the place behind it.
+#[derive(Clone, Copy, Debug, PartialEq, Eq)]
 pub struct Parameter {
-    pub fault: u16,
     pub at: usize,
-    pub len: usize,
-    pub there: bool,
-    pub value: usize,
+    pub value: Option<usize>,
 }
 
 // Cells
@@ -116,22 +113,31 @@ pub fn put_two(cells: &mut [u16], count: usize, x: u16, y: usize) -> usize
 fn put_operation(
     rows: &[u16],
     row: usize,
-    there: bool,
-    value: usize,
+    value: Option<usize>,
     cells: &mut [u16],
     count: usize,
 ) -> usize
-    requires { (row < 512) × (value < 65536) }
-    ensures { Appends cells.old count (operation_cells (get_or rows.now (8 * row + 1) 0) there value) cells.new result }
+    requires { (row < 512) × IfSome value (λ v. v < 65536) }
+    ensures { Appends cells.old count (operation_cells (get_or rows.now (8 * row + 1) 0) (is_some value) (unwrap_or value 0)) cells.new result }
 {
     let op = base::number(rows, symbols::ROW * row + symbols::VALUE) as u16;
-    if there {
-        return put_two(cells, count, op, value);
+    match value {
+        Some(v) => put_two(cells, count, op, v),
+        None => put(cells, count, op),
     }
-    put(cells, count, op)
 }
 
 // Answers
+
+fn refused(fault: Fault, w: WordAt) -> Refusal
+    ensures { (result.fault ≡ fault) × (result.at ≡ w.start) × (result.len ≡ w.len) }
+{
+    Refusal {
+        fault,
+        at: w.start,
+        len: w.len,
+    }
+}
 
 fn went(at: usize, count: usize, past: bool) -> Built
     ensures { Went at count past result }
@@ -149,11 +155,11 @@ fn went(at: usize, count: usize, past: bool) -> Built
     }
 }
 
-fn stopped(fault: u16, at: usize, len: usize) -> Built
-    ensures { Stopped fault at len result }
+fn stopped(fault: Fault, at: usize, len: usize) -> Built
+    ensures { Stopped (fault_number fault) at len result }
 {
     let done = Done {
-        fault,
+        fault: u16::from(fault),
         at,
         len,
         count: 0,
@@ -181,11 +187,11 @@ fn chose(at: usize, count: usize, class: usize, absent: u16) -> Selected
     }
 }
 
-fn balked(fault: u16, at: usize, len: usize) -> Selected
-    ensures { Balked fault at len result }
+fn balked(fault: Fault, at: usize, len: usize) -> Selected
+    ensures { Balked (fault_number fault) at len result }
 {
     let done = Done {
-        fault,
+        fault: u16::from(fault),
         at,
         len,
         count: 0,
@@ -204,73 +210,60 @@ fn class_named(text: &[u8], rows: &[u16], n: usize, start: usize, len: usize) ->
     requires { Kept text.now rows.now n }
     ensures { result ≡ class_named (held text.now rows.now n) (part text.now start len) }
 {
-    let i = symbols::find_row(text, rows, n, symbols::TYPE, start, len);
-    if i < symbols::NONE {
-        return symbols::VALUES + i;
+    match symbols::find_row(text, rows, n, symbols::TYPE, start, len) {
+        Some(i) => symbols::VALUES + i,
+        None => 0,
     }
-    0
 }
 
 // A parameter of the class, and the `)` behind it.
-fn parameter_value(text: &[u8], rows: &[u16], n: usize, at: usize, class: usize) -> Parameter
+fn parameter_value(
+    text: &[u8],
+    rows: &[u16],
+    n: usize,
+    at: usize,
+    class: usize,
+) -> Result<Parameter, Refusal>
     requires { (at ≤ length text.now) × Kept text.now rows.now n }
-    ensures { ValueDone text.now rows.now n at class result }
+    ensures { ValueDone text.now rows.now n at class (parameter_told result) }
 {
     let c = scanner::next_word(text, at);
-    let v = symbols::value_of(text, rows, n, class, c.start, c.len);
-    if v.fault != 0 {
-        return Parameter {
-            fault: v.fault,
-            at: c.start,
-            len: c.len,
-            there: false,
-            value: 0,
-        };
-    }
-    let e = scanner::next_word(text, c.next);
-    Parameter {
-        fault: 0,
-        at: e.next,
-        len: 0,
-        there: true,
-        value: v.value,
-    }
-}
-
-// A parameter that is missing or extra.
-fn misfit(at: usize, len: usize) -> Parameter
-    ensures { Misfit at len result }
-{
-    Parameter {
-        fault: base::NOT_WANTED,
-        at,
-        len,
-        there: false,
-        value: 0,
+    match symbols::value_of(text, rows, n, class, c.start, c.len) {
+        Ok(value) => {
+            let e = scanner::next_word(text, c.next);
+            Ok(Parameter {
+                at: e.next,
+                value: Some(value),
+            })
+        }
+        Err(fault) => Err(refused(fault, c)),
     }
 }
 
 // The parameter of the operation w, which is declaration `row`.
-fn parameter_of(text: &[u8], rows: &[u16], n: usize, row: usize, w: WordAt) -> Parameter
+fn parameter_of(
+    text: &[u8],
+    rows: &[u16],
+    n: usize,
+    row: usize,
+    w: WordAt,
+) -> Result<Parameter, Refusal>
     requires { Lies text.now w × Kept text.now rows.now n × (row < n) }
-    ensures { OperandDone w row text.now rows.now n result }
+    ensures { OperandDone w row text.now rows.now n (parameter_told result) }
 {
     let k = scanner::next_word(text, w.next);
     let len = base::number(rows, symbols::ROW * row + symbols::SECOND_LEN);
     if k.kind != words::OPENING {
         if len != 0 {
-            return misfit(w.start, w.len);
+            return Err(refused(Fault::NotWanted, w));
         }
-        return Parameter {
-            fault: 0,
+        return Ok(Parameter {
             at: w.next,
-            len: 0,
-            there: false,
-            value: 0,
-        };
+            value: None,
+        });
     }
     if len == 0 {
-        return misfit(k.start, k.len);
+        return Err(refused(Fault::NotWanted, k));
     }
     let start = base::number(rows, symbols::ROW * row + symbols::SECOND_START);
     let class = class_named(text, rows, n, start, len);
@@ -286,7 +279,7 @@ fn resolve_match(text: &[u8], at: usize, v: usize, cells: &mut [u16], count: usi
 {
     let k = scanner::next_word(text, at);
     if k.kind == words::OPENING {
-        return stopped(base::NOT_WANTED, k.start, k.len);
+        return stopped(Fault::NotWanted, k.start, k.len);
     }
     let c = put_two(cells, count, cells::MATCH, v);
     went(at, c, true)
@@ -304,20 +297,19 @@ fn resolve_update(
     requires { Lies text.now w × Kept text.now rows.now n }
     ensures { UpdateDone w text.now rows.now n cells.old count cells.new result }
 {
-    let o = symbols::operation_of(text, rows, n, w.start, w.len);
-    if o.fault != 0 {
-        return stopped(o.fault, w.start, w.len);
-    }
-    let row = o.value;
+    let row = match symbols::operation_of(text, rows, n, w.start, w.len) {
+        Ok(row) => row,
+        Err(fault) => return stopped(fault, w.start, w.len),
+    };
     let chooses = base::number(rows, symbols::ROW * row + symbols::THIRD_LEN);
     if chooses != 0 {
-        return stopped(base::NOT_WANTED, w.start, w.len);
+        return stopped(Fault::NotWanted, w.start, w.len);
     }
-    let p = parameter_of(text, rows, n, row, w);
-    if p.fault != 0 {
-        return stopped(p.fault, p.at, p.len);
-    }
-    let c = put_operation(rows, row, p.there, p.value, cells, count);
+    let p = match parameter_of(text, rows, n, row, w) {
+        Ok(p) => p,
+        Err(refusal) => return stopped(refusal.fault, refusal.at, refusal.len),
+    };
+    let c = put_operation(rows, row, p.value, cells, count);
     went(p.at, c, true)
 }
 
@@ -333,11 +325,10 @@ fn resolve_named(
     requires { Lies text.now w × Kept text.now rows.now n }
     ensures { NamedDone w text.now rows.now n cells.old count cells.new result }
 {
-    let v = symbols::find_value(text, rows, n, symbols::INPUT, w.start, w.len);
-    if v < symbols::NONE {
-        return resolve_match(text, w.next, v, cells, count);
+    match symbols::find_value(text, rows, n, symbols::INPUT, w.start, w.len) {
+        Some(v) => resolve_match(text, w.next, v, cells, count),
+        None => resolve_update(text, rows, n, w, cells, count),
     }
-    resolve_update(text, rows, n, w, cells, count)
 }
 
 // A name or string, and its action of two cells.
@@ -354,11 +345,11 @@ fn resolve_sent(
     ensures { (f : ℕ → Plain) → Sends sent.first sent.past f → SentDone f sent.class text.now rows.now n at cells.old count cells.new result }
 {
     let w = scanner::next_word(text, at);
-    let v = symbols::value_of(text, rows, n, sent.class, w.start, w.len);
-    if v.fault != 0 {
-        return stopped(v.fault, w.start, w.len);
-    }
-    let c = put_two(cells, count, sent.first, v.value);
+    let value = match symbols::value_of(text, rows, n, sent.class, w.start, w.len) {
+        Ok(value) => value,
+        Err(fault) => return stopped(fault, w.start, w.len),
+    };
+    let c = put_two(cells, count, sent.first, value);
     went(w.next, c, sent.past)
 }
 
@@ -415,14 +406,13 @@ fn resolve_call(
     ensures { RestDone NameIn call_of text.now rows.now n at cells.old count cells.new result }
 {
     let w = scanner::next_word(text, at);
-    let o = symbols::rule_of(text, rows, n, w.start, w.len);
-    if o.fault != 0 {
-        return stopped(o.fault, w.start, w.len);
-    }
-    let row = o.value;
+    let row = match symbols::rule_of(text, rows, n, w.start, w.len) {
+        Ok(row) => row,
+        Err(fault) => return stopped(fault, w.start, w.len),
+    };
     let gives = base::number(rows, symbols::ROW * row + symbols::THIRD_LEN);
     if gives != 0 {
-        return stopped(base::NOT_WANTED, w.start, w.len);
+        return stopped(Fault::NotWanted, w.start, w.len);
     }
     let place = base::number(rows, symbols::ROW * row + symbols::VALUE);
     let c = put_two(cells, count, cells::CALL, place);
@@ -442,22 +432,21 @@ fn resolve_ranked(
     ensures { RankedDone w text.now rows.now n cells.old count cells.new result }
 {
     let s = scanner::next_word(text, w.next);
-    let section = symbols::operators_of(text, rows, n, s.start, s.len);
-    if section.fault != 0 {
-        return stopped(section.fault, s.start, s.len);
-    }
+    let section = match symbols::operators_of(text, rows, n, s.start, s.len) {
+        Ok(section) => section,
+        Err(fault) => return stopped(fault, s.start, s.len),
+    };
     let a = scanner::next_word(text, s.next);
     let o = scanner::next_word(text, a.next);
-    let operand = symbols::rule_of(text, rows, n, o.start, o.len);
-    if operand.fault != 0 {
-        return stopped(operand.fault, o.start, o.len);
-    }
-    let row = operand.value;
+    let row = match symbols::rule_of(text, rows, n, o.start, o.len) {
+        Ok(row) => row,
+        Err(fault) => return stopped(fault, o.start, o.len),
+    };
     let valued = base::number(rows, symbols::ROW * row + symbols::THIRD_LEN);
     if valued != 0 {
-        return stopped(base::NOT_WANTED, o.start, o.len);
+        return stopped(Fault::NotWanted, o.start, o.len);
     }
-    let lowest = maker::lowest(rows, section.value, row);
+    let lowest = maker::lowest(rows, section, row);
     let c = put_two(cells, count, cells::CALL, lowest);
     went(o.next, c, true)
 }
@@ -477,7 +466,7 @@ fn give_value(
 {
     if class == 0 {
         let v = scanner::next_word(text, w.next);
-        return stopped(base::WRONG_RETURN, v.start, v.len);
+        return stopped(Fault::WrongReturn, v.start, v.len);
     }
     let sent = Sent {
         class,
@@ -508,7 +497,7 @@ fn resolve_give(
         return give_value(text, rows, n, w, class, cells, count);
     }
     if class != 0 {
-        return stopped(base::WRONG_RETURN, w.start, w.len);
+        return stopped(Fault::WrongReturn, w.start, w.len);
     }
     let c = put(cells, count, cells::BACK);
     went(w.next, c, false)
@@ -540,7 +529,7 @@ fn resolve_exit(w: WordAt, inside: bool, cells: &mut [u16], count: usize) -> Bui
             exits: true,
         };
     }
-    stopped(base::NO_CYCLE, w.start, w.len)
+    stopped(Fault::NoCycle, w.start, w.len)
 }
 
 // A plain action, whose first word is w, and what it means there.
@@ -557,8 +546,7 @@ pub fn resolve_plain(
     ensures { PlainDone text.now rows.now scope.n at scope.inside scope.class cells.old count cells.new result }
 {
     let n = scope.n;
-    let kind = w.kind;
-    match kind {
+    match w.kind {
         words::NAME => resolve_named(text, rows, n, w, cells, count),
         words::STRING => resolve_named(text, rows, n, w, cells, count),
         words::QUESTION => resolve_any(w, cells, count),
@@ -568,7 +556,7 @@ pub fn resolve_plain(
         words::AT => resolve_call(text, rows, n, w.next, cells, count),
         words::TWICE => resolve_give(text, rows, n, w, scope.class, cells, count),
         words::CARET => resolve_ranked(text, rows, n, w, cells, count),
-        _ => stopped(base::NOT_ALLOWED, w.start, w.len),
+        _ => stopped(Fault::NotAllowed, w.start, w.len),
     }
 }
 
@@ -587,14 +575,13 @@ fn select_rule(
     ensures { ChoiceDone NameIn by_rule_of text.now rows.now n at cells.old count cells.new result }
 {
     let w = scanner::next_word(text, at);
-    let o = symbols::rule_of(text, rows, n, w.start, w.len);
-    if o.fault != 0 {
-        return balked(o.fault, w.start, w.len);
-    }
-    let row = o.value;
+    let row = match symbols::rule_of(text, rows, n, w.start, w.len) {
+        Ok(row) => row,
+        Err(fault) => return balked(fault, w.start, w.len),
+    };
     let gives = base::number(rows, symbols::ROW * row + symbols::THIRD_LEN);
     if gives == 0 {
-        return balked(base::NOT_WANTED, w.start, w.len);
+        return balked(Fault::NotWanted, w.start, w.len);
     }
     let start = base::number(rows, symbols::ROW * row + symbols::THIRD_START);
     let class = class_named(text, rows, n, start, gives);
@@ -616,11 +603,11 @@ fn select_with(
     requires { Lies text.now w × Kept text.now rows.now n × (asked.row < n) }
     ensures { WithDone w asked.row asked.class text.now rows.now n cells.old count cells.new result }
 {
-    let p = parameter_of(text, rows, n, asked.row, w);
-    if p.fault != 0 {
-        return balked(p.fault, p.at, p.len);
-    }
-    let c = put_operation(rows, asked.row, p.there, p.value, cells, count);
+    let p = match parameter_of(text, rows, n, asked.row, w) {
+        Ok(p) => p,
+        Err(refusal) => return balked(refusal.fault, refusal.at, refusal.len),
+    };
+    let c = put_operation(rows, asked.row, p.value, cells, count);
     chose(p.at, c, asked.class, cells::NO_OTHERWISE)
 }
 
@@ -636,14 +623,13 @@ fn select_operation(
     requires { Lies text.now w × Kept text.now rows.now n }
     ensures { ByOperationDone w text.now rows.now n cells.old count cells.new result }
 {
-    let o = symbols::operation_of(text, rows, n, w.start, w.len);
-    if o.fault != 0 {
-        return balked(o.fault, w.start, w.len);
-    }
-    let row = o.value;
+    let row = match symbols::operation_of(text, rows, n, w.start, w.len) {
+        Ok(row) => row,
+        Err(fault) => return balked(fault, w.start, w.len),
+    };
     let chooses = base::number(rows, symbols::ROW * row + symbols::THIRD_LEN);
     if chooses == 0 {
-        return balked(base::NOT_WANTED, w.start, w.len);
+        return balked(Fault::NotWanted, w.start, w.len);
     }
     let start = base::number(rows, symbols::ROW * row + symbols::THIRD_START);
     let class = class_named(text, rows, n, start, chooses);
@@ -680,25 +666,7 @@ fn is_seen(seen: &[u16], used: usize, v: u16) -> bool
     requires { used ≤ length seen.now }
     ensures { result ≡ member v (take used seen.now) }
 {
-    let mut i = 0;
-    while i < used {
-        if v == seen[i] {
-            return true;
-        }
-        i += 1;
-    }
-    false
-}
-
-fn mislabel(fault: u16, w: WordAt) -> Label
-    ensures { Mislabel fault w result }
-{
-    Label {
-        fault,
-        at: w.start,
-        len: w.len,
-        value: 0,
-    }
+    seen[..used].contains(&v)
 }
 
 // A label of the class that is not among the first `used`, where there is room for it.
@@ -710,31 +678,25 @@ fn resolve_label(
     class: usize,
     seen: &[u16],
     used: usize,
-) -> Label
+) -> Result<Label, Refusal>
     requires { (at ≤ length text.now) × Kept text.now rows.now n × (used ≤ length seen.now) }
-    ensures { LabelDone text.now rows.now n at class seen.now used result }
+    ensures { LabelDone text.now rows.now n at class seen.now used (label_told result) }
 {
     let w = scanner::next_word(text, at);
     if w.kind < words::FIRST_WORD {
-        return mislabel(base::NOT_ALLOWED, w);
+        return Err(refused(Fault::NotAllowed, w));
     }
-    let label = symbols::value_of(text, rows, n, class, w.start, w.len);
-    if label.fault != 0 {
-        return mislabel(label.fault, w);
-    }
-    let value = label.value as u16;
+    let value = match symbols::value_of(text, rows, n, class, w.start, w.len) {
+        Ok(value) => value as u16,
+        Err(fault) => return Err(refused(fault, w)),
+    };
     if is_seen(seen, used, value) {
-        return mislabel(base::LABEL_REPEATED, w);
+        return Err(refused(Fault::LabelRepeated, w));
     }
     if seen.len() <= used {
-        return mislabel(base::NOT_ALLOWED, w);
+        return Err(refused(Fault::NotAllowed, w));
     }
-    Label {
-        fault: 0,
-        at: w.next,
-        len: 0,
-        value,
-    }
+    Ok(Label { at: w.next, value })
 }
 
 // Labels up to a word that is no comma, in a choice whose first `used` labels are seen.
@@ -752,16 +714,19 @@ pub fn resolve_labels(
 {
     let mut i = at;
     let mut u = used;
+    // no range: what is read says where the next begins
     loop {
-        let l = resolve_label(text, rows, n, i, class, seen, u);
-        if l.fault != 0 {
-            return Labels {
-                fault: l.fault,
-                at: l.at,
-                len: l.len,
-                used: u,
-            };
-        }
+        let l = match resolve_label(text, rows, n, i, class, seen, u) {
+            Ok(l) => l,
+            Err(refusal) => {
+                return Labels {
+                    fault: u16::from(refusal.fault),
+                    at: refusal.at,
+                    len: refusal.len,
+                    used: u,
+                };
+            }
+        };
         seen[u] = l.value;
         let more = u + 1;
         let w = scanner::next_word(text, l.at);

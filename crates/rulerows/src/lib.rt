@@ -7,7 +7,6 @@ ghost use Rattle.rulerows.specs.Filled.{set_row, WrittenPut, PairOf, LevelsPut, 
 
 use carrier::ROW;
 use frontend::Resolved;
-use maker::NO_LEVEL;
 use symbols::{NAME_LEN, NAME_START, PAIR, PAIR_OPERAND, PAIR_SECTION, PAIRS};
 
 // The numbers of a row; a name is a part of the text, the operand rule's begins at `operand` and has `size` bytes.
@@ -50,8 +49,7 @@ fn put_written(rows: &[u16], first: usize, places: &[usize], rules: usize, sheet
     requires { Holds first rules × (rules ≤ length places.now) × (length sheet.old ≡ 770) }
     ensures { WrittenPut rows.now first places.now rules sheet.new }
 {
-    let mut k: usize = 0;
-    while k < rules {
+    for k in 0..rules {
         let i = symbols::ROW * (first + k);
         let row = Row {
             location: (places[k] % 65536) as u16,
@@ -62,7 +60,6 @@ fn put_written(rows: &[u16], first: usize, places: &[usize], rules: usize, sheet
             level: 0,
         };
         put_row(sheet, k, row);
-        k += 1;
     }
 }
 
@@ -96,8 +93,8 @@ fn put_levels(
     ensures { LevelsPut text.now pair places.now k rules sheet.old sheet.new result }
 {
     let mut i = k;
-    let mut l = maker::next_level(text, pair.at, 0);
-    while l.level < NO_LEVEL {
+    let mut level = maker::next_level(text, pair.at, 0);
+    while let Some(rank) = level {
         if rules <= i {
             return i;
         }
@@ -107,11 +104,11 @@ fn put_levels(
             len: pair.len,
             operand: pair.operand,
             size: pair.size,
-            level: l.level as u16,
+            level: rank.level as u16,
         };
         put_row(sheet, i, row);
         i += 1;
-        l = maker::next_level(text, pair.at, l.level);
+        level = maker::next_level(text, pair.at, rank.level);
     }
     i
 }
@@ -121,13 +118,10 @@ fn put_made(text: &[u8], rows: &[u16], b: Resolved, places: &[usize], sheet: &mu
     requires { Placed text.now rows.now b × (b.rules ≤ length places.now) × (length sheet.old ≡ 770) × (length text.now ≤ 65535) }
     ensures { MadePut text.now rows.now b 0 b.written places.now sheet.old sheet.new }
 {
-    let pairs = base::number(rows, PAIRS);
-    let mut j: usize = 0;
     let mut k = b.written;
-    while j < pairs {
+    for j in 0..base::number(rows, PAIRS) {
         let pair = pair_of(text, rows, j);
         k = put_levels(text, pair, places, k, b.rules, sheet);
-        j += 1;
     }
 }
 

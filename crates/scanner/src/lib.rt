@@ -1,4 +1,6 @@
 // From bytes to words: the first word from a place of a text on.
+// Loops and tests here go by indices and returns: ranges, `match` and the library's tests were tried, and take more
+// instructions than scripts/text-costs allows (docs/DESIGN-PASS.md).
 #![tactic(auto)]
 
 ghost use Rattle.std.specs.Prelude.{◌≡◌, ◌+◌, ◌^◌, ◌≤◌, ◌<◌, length, take, drop, get_or};
@@ -7,10 +9,8 @@ ghost use Rattle.words.specs.Words.{blank, symbol, digit, letter, name_byte, str
 ghost use Rattle.scanner.specs.Next.{Next};
 ghost use Rattle.scanner.specs.Scanning.{in_class, Ran, brackets, heads, others, name_here, number_here, greater_here, symbol_here, word_found, Spelt, Skipped};
 
-use base::byte_word;
-
 // A word of a text: its kind (crates/words has the numbers), the place and the number of its bytes, the place past it.
-#[derive(Clone, Copy)]
+#[derive(Clone, Copy, Debug, PartialEq, Eq)]
 pub struct WordAt {
     pub kind: u16,
     pub start: usize,
@@ -19,7 +19,7 @@ pub struct WordAt {
 }
 
 // Bytes that run on: of a name, of a number, inside a string, in a comment.
-#[derive(Clone, Copy)]
+#[derive(Clone, Copy, Debug, PartialEq, Eq)]
 pub enum Class {
     Name,
     Digit,
@@ -291,7 +291,7 @@ fn symbol_here(text: &[u8], at: usize) -> WordAt
         return found(words::BAR, at, 1);
     }
     if is_symbol(b) {
-        return found(byte_word(b), at, 1);
+        return found(u16::from(b), at, 1);
     }
     found(words::BAD, at, 1)
 }

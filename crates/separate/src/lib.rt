@@ -10,7 +10,6 @@ ghost use Rattle.machine.specs.Bytes.{words_of};
 ghost use Rattle.separate.specs.Steps.{ReadsTexts, StandsIn, FindsNames};
 ghost use Rattle.separate.specs.Uses.{UsePut, UsesPut};
 
-use base::wide;
 use partrules::{Part, Rules, Spot};
 use partwriter::Sizes;
 
@@ -29,7 +28,7 @@ const BUFFER: usize = 65536;
 const ROWS: usize = symbols::PAIR_SECTION + symbols::PAIR * base::RULES;
 
 // A fault's number, 0 for none; the text that shows it, and the part of that text.
-#[derive(Clone, Copy)]
+#[derive(Clone, Copy, Debug, PartialEq, Eq)]
 pub struct Fault {
     pub number: u16,
     pub text: usize,
@@ -38,7 +37,7 @@ pub struct Fault {
 }
 
 // Both texts read: where the common part's `end` begins, and the place right behind the part's word `rules`.
-#[derive(Clone, Copy)]
+#[derive(Clone, Copy, Debug, PartialEq, Eq)]
 pub struct Texts {
     pub fault: Fault,
     pub at: usize,
@@ -46,7 +45,7 @@ pub struct Texts {
 }
 
 // The names of both texts: how many rows there are, and the first rule's.
-#[derive(Clone, Copy)]
+#[derive(Clone, Copy, Debug, PartialEq, Eq)]
 pub struct Named {
     pub fault: Fault,
     pub count: usize,
@@ -54,14 +53,14 @@ pub struct Named {
 }
 
 // Words written, also those past the room for them.
-#[derive(Clone, Copy)]
+#[derive(Clone, Copy, Debug, PartialEq, Eq)]
 pub struct Written {
     pub fault: Fault,
     pub words: usize,
 }
 
 // The answer: the number of the fault, 0 for none; the text that shows it, and the part of that text; the words of the object.
-#[derive(Clone, Copy)]
+#[derive(Clone, Copy, Debug, PartialEq, Eq)]
 pub struct Made {
     pub number: u16,
     pub text: usize,
@@ -98,14 +97,14 @@ fn read_texts(common: &[u8], part: &[u8]) -> Texts
     if base::TEXT_BYTES < part.len() {
         return unread(base::OVER_LIMIT, PART, part.len(), 0);
     }
-    let c = reader::check_common(common);
-    if c.out.fault != 0 {
-        return unread(c.out.fault, COMMON, c.out.at, c.out.len);
-    }
-    let p = reader::check_part(part, c.room);
-    if p.fault != 0 {
-        return unread(p.fault, PART, p.at, p.len);
-    }
+    let c = match reader::check_common(common) {
+        Ok(c) => c,
+        Err(e) => return unread(u16::from(e.fault), COMMON, e.at, e.len),
+    };
+    let from = match reader::check_part(part, c.room) {
+        Ok(from) => from,
+        Err(e) => return unread(u16::from(e.fault), PART, e.at, e.len),
+    };
     let fault = Fault {
         number: 0,
         text: 0,
@@ -114,22 +113,12 @@ fn read_texts(common: &[u8], part: &[u8]) -> Texts
     };
     Texts {
         fault,
-        at: c.out.at,
-        from: p.at,
+        at: c.at,
+        from,
     }
 }
 
 // Names
-
-// So many places back, and 0 where there are not so many.
-fn back(start: usize, moved: usize) -> usize
-    ensures { result ≡ start - moved }
-{
-    if start < moved {
-        return 0;
-    }
-    start - moved
-}
 
 fn unnamed(number: u16, text: usize, start: usize, len: usize) -> Named
     ensures { (result.fault.number ≡ number) × (result.fault.text ≡ text) × (result.fault.start ≡ start) × (result.fault.len ≡ len) × (result.first ≡ 0) × (result.count ≡ 0) }
@@ -155,7 +144,7 @@ fn find_names(text: &[u8], rows: &mut [u16], moved: usize) -> Named
     let d = partnames::declare(text, rows);
     let a = partnames::add_others(text, rows, d.count, d.first, d.at);
     if a.fault != 0 {
-        return unnamed(a.fault, PART, back(a.at, moved), a.len);
+        return unnamed(a.fault, PART, a.at.saturating_sub(moved), a.len);
     }
     let lines = d.count - d.first;
     let s = partnames::settle(text, rows, a.count, d.first, lines);
@@ -186,10 +175,10 @@ fn put_use(text: &[u8], at: usize, moved: usize, object: &mut [u8], c: usize) ->
         return c;
     }
     let u = partpairs::read_words(text, at);
-    let start = back(u.sign.start, moved);
+    let start = u.sign.start.saturating_sub(moved);
     let a = partwriter::put_two(object, c, start as u16, u.sign.len as u16);
-    let b = partwriter::put_name(object, a, text, u.section.start, u.section.len, moved);
-    partwriter::put_name(object, b, text, u.operand.start, u.operand.len, moved)
+    let b = partwriter::put_name(object, a, text, u.section, moved);
+    partwriter::put_name(object, b, text, u.operand, moved)
 }
 
 // The uses whose places `signs` holds.
@@ -205,10 +194,8 @@ pub fn put_uses(
     ensures { UsesPut text.now signs.now count moved object.old c object.new result }
 {
     let mut n = partwriter::counted(object, c);
-    let mut k = 0;
-    while k < count {
-        n = put_use(text, wide(signs[k]), moved, object, n);
-        k += 1;
+    for sign in &signs[..count] {
+        n = put_use(text, usize::from(*sign), moved, object, n);
     }
     n
 }
@@ -217,7 +204,7 @@ pub fn put_uses(
 
 // A common part and a part in one text: the bytes of the part, how much further on its words stand here, the place of its rules; how many rows there
 // are, how many of them are rules', and how many pairs the part has.
-#[derive(Clone, Copy)]
+#[derive(Clone, Copy, Debug, PartialEq, Eq)]
 pub struct Plan {
     pub size: usize,
     pub moved: usize,
@@ -259,7 +246,7 @@ fn unwritten(number: u16, text: usize, start: usize, len: usize) -> Written
 fn set_sizes(object: &mut [u8], words: usize, rules: usize)
     ensures { words_of object.new ≡ sized (words_of object.old) words rules }
 {
-    let behind = back(words, 3);
+    let behind = words.saturating_sub(3);
     partwriter::set_word(
         object,
         1,
@@ -290,7 +277,7 @@ fn write_object(
     let b = put_uses(text, signs, p.pairs, p.moved, object, a);
     let r = write_rules(text, rows, p, object, b);
     if r.fault != 0 {
-        return unwritten(r.fault, PART, back(r.at, p.moved), r.len);
+        return unwritten(r.fault, PART, r.at.saturating_sub(p.moved), r.len);
     }
     set_sizes(object, r.count, r.rules);
     let fault = Fault {

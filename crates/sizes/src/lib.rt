@@ -6,11 +6,11 @@ ghost use Rattle.std.specs.Prelude.{◌≡◌, ℕ, ◌+◌, ◌-◌, ◌<◌, �
 ghost use Rattle.sizes.specs.Heads.{cells_of, words_of, open_after};
 ghost use Rattle.sizes.specs.Located.{Room, Moved, Scanned, Locates};
 
-use base::{byte, cell, least, wide};
+use base::cell;
 use cells::sort_at;
 
 // A place in the cells and a count of words.
-#[derive(Clone, Copy)]
+#[derive(Clone, Copy, Debug, PartialEq, Eq)]
 pub struct Spot {
     pub p: usize,
     pub at: usize,
@@ -26,62 +26,41 @@ const WORDS: [u8; PAST] = [0, 2, 2, 2, 1, 2, 2, 3, 2, 1, 3, 5, 1, 0, 4];
 fn cells_of(k: u16) -> usize
     ensures { result ≡ cells_of k }
 {
-    if k < cells::PAST {
-        return byte(CELLS[wide(k)]);
+    match k {
+        ..cells::PAST => usize::from(CELLS[usize::from(k)]),
+        cells::PAST..cells::ALTERNATIVE => 1,
+        cells::ALTERNATIVE..cells::UPDATE => usize::from(k - cells::PREFIX),
+        cells::UPDATE..cells::UPDATE_WITH => 1,
+        cells::UPDATE_WITH..cells::ASK => 2,
+        cells::ASK..cells::ASK_WITH => 1,
+        _ => 2,
     }
-    if k < cells::ALTERNATIVE {
-        return 1;
-    }
-    if k < cells::UPDATE {
-        return wide(k - cells::PREFIX);
-    }
-    if k < cells::UPDATE_WITH {
-        return 1;
-    }
-    if k < cells::ASK {
-        return 2;
-    }
-    if k < cells::ASK_WITH { 1 } else { 2 }
 }
 
 fn words_of(k: u16) -> usize
     ensures { result ≡ words_of k }
 {
-    if k < cells::PAST {
-        return byte(WORDS[wide(k)]);
+    match k {
+        ..cells::PAST => usize::from(WORDS[usize::from(k)]),
+        cells::PAST..cells::ALTERNATIVE => 0,
+        cells::ALTERNATIVE..cells::UPDATE => 2 * usize::from(k - cells::PREFIX),
+        cells::UPDATE..cells::UPDATE_WITH => 1,
+        cells::UPDATE_WITH..cells::ASK => 3,
+        cells::ASK..cells::ASK_WITH => 4,
+        _ => 6,
     }
-    if k < cells::ALTERNATIVE {
-        return 0;
-    }
-    if k < cells::UPDATE {
-        return 2 * wide(k - cells::PREFIX);
-    }
-    if k < cells::UPDATE_WITH {
-        return 1;
-    }
-    if k < cells::ASK {
-        return 3;
-    }
-    if k < cells::ASK_WITH { 4 } else { 6 }
 }
 
 fn open_after(k: u16, d: usize) -> usize
     requires { (0 < d) × (d < 2000000000) }
     ensures { result ≡ open_after k d }
 {
-    if k == cells::END {
-        return d - 1;
+    match k {
+        cells::END => d - 1,
+        cells::CYCLE | cells::OTHERWISE => d + 1,
+        cells::ALTERNATIVE..cells::UPDATE => d + 1,
+        _ => d,
     }
-    if k == cells::CYCLE {
-        return d + 1;
-    }
-    if k == cells::OTHERWISE {
-        return d + 1;
-    }
-    if k < cells::ALTERNATIVE {
-        return d;
-    }
-    if k < cells::UPDATE { d + 1 } else { d }
 }
 
 // The words of the list of actions at p, and where it ends: one pass over its cells.
@@ -93,14 +72,15 @@ fn scan(cells: &[u16], p: usize) -> Spot
     let mut q = p;
     let mut w = 0;
     let mut d = 1;
+    // no range: a cell says how deep the next stands
     while 0 < d {
         let k = cell(cells, q);
         d = open_after(k, d);
-        w = w + words_of(k);
-        q = q + cells_of(k);
+        w += words_of(k);
+        q += cells_of(k);
     }
     Spot {
-        p: least(q, cells.len()),
+        p: q.min(cells.len()),
         at: w,
     }
 }
@@ -108,6 +88,7 @@ fn scan(cells: &[u16], p: usize) -> Spot
 fn put_start(starts: &mut [usize], r: usize, l: usize)
     ensures { starts.new ≡ set starts.old r l }
 {
+    // an index: of `get_mut` it is not known that the row stays where there is no place
     if r < starts.len() {
         starts[r] = l;
     }
@@ -124,21 +105,16 @@ fn end_size(sort: u8) -> usize
 pub fn locate(cells: &[u16], sorts: &[u8], rules: usize, starts: &mut [usize]) -> usize
     ensures { Locates cells.now sorts.now rules starts.new result }
 {
-    if base::WORD_VALUES < cells.len() {
-        return 0;
-    }
-    if base::RULES < rules {
+    if base::WORD_VALUES < cells.len() || base::RULES < rules {
         return 0;
     }
     let mut q = 0;
     let mut w = 0;
-    let mut r = 0;
-    while r < rules {
+    for r in 0..rules {
         put_start(starts, r, w + 1);
         let s = scan(cells, q);
-        w = w + s.at + end_size(sort_at(sorts, r));
+        w += s.at + end_size(sort_at(sorts, r));
         q = s.p;
-        r = r + 1;
     }
     w
 }

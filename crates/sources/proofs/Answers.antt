@@ -15,7 +15,7 @@ use Rattle.names.specs.Understand.{understand}
 use Rattle.processor.specs.Process.{process, part_of, checked, answer_for}
 use Rattle.program.specs.Program.{Rule}
 use Rattle.reader.specs.Counting.{Decides}
-use Rattle.reader.specs.declared.Out.{Out}
+use Rattle.reader.specs.Answers.{Out}
 use Rattle.sources.specs.Prepared.{Reads, Writes, Prepares, unready, InBuffers}
 use Rattle.syntax.specs.Parse.{parse}
 use Rattle.syntax.specs.Reading.{got}

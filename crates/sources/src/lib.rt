@@ -100,12 +100,11 @@ pub fn read_rules(
     requires { (length rows.old ≡ 6017) × (length cells.old ≡ 4224) × (length sorts.old ≡ 128) × (length sheet.old ≡ 770) }
     ensures { Reads text.now cells.new sorts.new sheet.new result.number result.start result.len }
 {
-    let s = reader::check_syntax(text);
-    if s.fault != 0 {
+    if let Err(e) = reader::check_syntax(text) {
         return Prepared {
-            number: s.fault,
-            start: s.at,
-            len: s.len,
+            number: u16::from(e.fault),
+            start: e.at,
+            len: e.len,
         };
     }
     resolve_rules(text, rows, cells, sorts, sheet)
@@ -116,7 +115,8 @@ pub fn write_table(cells: &[u16], sorts: &[u8], sheet: &[u16], table: &mut [u8])
     requires { length table.old ≡ 8192 }
     ensures { Writes cells.now sorts.now sheet.now table.new }
 {
-    emitter::emit(cells, sorts, base::number(sheet, COUNT), table);
+    // what was read fits
+    let _size = emitter::emit(cells, sorts, base::number(sheet, COUNT), table);
 }
 
 // The table and the rows of a text, or the number and the part of its first fault.

@@ -1,12 +1,16 @@
 -- Putting a node before the chain of its word keeps every chain.
+use borrow.Rule.Slice.PartMut.{put_mid, mid_of}
+use Rattle.std.proofs.lemmas.List.{get_or-append_right, get_or_append_left}
 use mathlib.Core.Bool.{Bool, true, false}
-use mathlib.Core.List.{List, [], ◌∷◌}
+use mathlib.Core.List.{List, [], ◌∷◌, ◌++◌}
 use mathlib.Core.Logic.{◌⊎◌, inl, inr}
 use mathlib.Core.Option.{Option, none, some}
 use mathlib.Core.Path.{◌≡◌, refl, sym, ap, ◌∙◌, subst}
 use Prim.Native.Nat.{ℕ, zero, suc, ◌+◌, ◌-◌, ◌*◌, ◌/◌, ◌≤◌, ◌<◌}
 use lib.Dec.{eqb}
-use lib.ListN.{length, get_or, set, length-set}
+use lib.ListN.{length, get_or, set, take, drop, replicate, length-set, length-take, length-drop, length-append, length-replicate}
+use lib.Seq.{get_or-take}
+use Rattle.base.proofs.Laws.{zeros-at}
 use lib.Seq.{get_or-set_same, get_or-set_other}
 use borrow.Author.Tests.{eqb-true, eqb-false, eq-eqb, ne_eqb}
 use native.Mathlib.Omega.{arith}
@@ -114,6 +118,24 @@ key_set rows key size = get_or-set_same rows 4607 key 0 (omega (arith, size))
 -- it is no head
 pub clear-keyed : (rows : List ℕ) (key : ℕ) → ((b : ℕ) → b < 511 → head_at rows b ≡ 0) → (b : ℕ) → b < 511 → head_at (set rows 4607 key) b ≡ 0
 clear-keyed rows key z b l = get_or-set_other rows 4607 (4096 + b) key 0 (λ e. omega (arith, e, l)) ∙ z b l
+
+-- the heads are filled
+pub mid-length : (rows : List ℕ) → length rows ≡ 6017 → length (mid_of 4096 511 rows) ≡ 511
+mid-length rows s = simp (length-take, length-drop) (omega (arith, s))
+
+pub heads-kept : (rows ys : List ℕ) → length rows ≡ 6017 → length ys ≡ 511 → RowsKept rows (put_mid 4096 511 rows ys)
+heads-kept rows ys s l = record {
+  size = simp (length-append, length-take, length-drop) (omega (arith, s, l));
+  kept = λ j h. get_or_append_left (take 4096 rows) _ 0 j (simp (length-take) (omega (arith, s, h))) ∙ get_or-take 4096 rows j 0 h;
+}
+
+pub heads-clear : (rows ys : List ℕ) (k : ℕ) → length rows ≡ 6017 → ys ≡ replicate k 0 → k ≡ 511 → (b : ℕ) → b < 511 → head_at (put_mid 4096 511 rows ys) b ≡ 0
+heads-clear rows ys k s e q b h =
+    get_or-append_right (take 4096 rows) _ 4096 (4096 + b) 0 (simp (length-take) (omega (arith, s))) (omega arith)
+    ∙ (ap (λ (i : ℕ). get_or (ys ++ drop 511 (drop 4096 rows)) i 0) back ∙ (get_or_append_left ys _ 0 b (rw (e, length-replicate) (omega (arith, q, h))) ∙ rw e (zeros-at k b)))
+  where
+    back : 4096 + b - 4096 ≡ b
+    back = omega arith
 
 pub decl-kept : {old new : List ℕ} (text : List ℕ) (j : ℕ) → RowsKept old new → j < 512 → decl_at text new j ≡ decl_at text old j
 unfolding decl_at

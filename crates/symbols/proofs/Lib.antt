@@ -6,3 +6,4 @@ pub mod Indexing
 pub mod Along
 pub mod Lookups
 pub mod Facts
+pub mod Numbered

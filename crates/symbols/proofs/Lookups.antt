@@ -1,95 +1,76 @@
 -- Laws of the words that are looked up: what the answers of the searches make of them.
-use mathlib.Core.Bool.{Bool, true, false}
+use mathlib.Core.Bool.{true, false}
 use mathlib.Core.List.{List}
 use mathlib.Core.Option.{Option, none, some}
 use mathlib.Core.Path.{◌≡◌, refl, ap, sym}
-use Prim.Native.Nat.{ℕ, ◌+◌, ◌<◌, ◌≤◌}
-use native.Mathlib.Omega.{arith}
-use lib.Dec.{ltb}
-use borrow.Author.Tests.{lt-ltb, le-ltb}
-use Rattle.std.specs.Prelude.{if◌then◌else◌}
+use Prim.Native.Nat.{ℕ, ◌+◌}
+use Rattle.std.specs.Prelude.{if◌then◌else◌, Some, None, Result, Ok, Err}
+use Rattle.std.proofs.lemmas.Option.{none-some, same_Some}
 use Rattle.base.specs.Common.{given}
-use Rattle.declarations.specs.Decls.{Decl, declared_in, elsewhere_in, lookup_in, type_in, index_of, knowns_in}
+use Rattle.base.specs.Faults.{fault_number}
+use Rattle.base.specs.declared.Fault.{Fault}
+use Rattle.base.specs.declared.Fault.TheVariants.{NotWanted, Undeclared}
+use Rattle.declarations.specs.Decls.{Decl, elsewhere_in, lookup_in, type_in, index_of, knowns_in}
 use Rattle.names.specs.Known.{Checked, good, wrong, find}
-use Rattle.symbols.specs.Rows.{Looks, found, missing, row_in, rule_in}
-use Rattle.symbols.specs.Search.{Tells, there, nowhere}
+use Rattle.symbols.specs.Rows.{Looks, found, missing, answer_of, row_in, rule_in}
 use Rattle.words.specs.Words.{Word}
 
-pub told-given : {r : ℕ} {o : Option ℕ} → Tells r o → ltb r 65536 ≡ given o
-told-given {r} (there e l) = lt-ltb r 65536 (omega arith)
-told-given {r} (nowhere e) = le-ltb r 65536 (omega arith)
-
-pub elsewhere-some : (ds : List Decl) (w : List ℕ) → elsewhere_in ds w ≡ 0 → ⊥
-unfolding elsewhere_in
-elsewhere-some ds w = go (declared_in w ds) where
-  go : (b : Bool) → ◌≡◌ {A = ℕ} (if b then 5 else 3) 0 → ⊥
-  go true e = omega arith
-  go false e = omega arith
-
 -- one of two: the number that a search gave, or the fault of a word elsewhere
-there_is : (r m : ℕ) (w : Word) {o : Option ℕ} → Tells r o → r < 65536 → Looks 0 r (elim o [ some v ↦ good v | none ↦ wrong m w ])
-there_is r m w (there e l) h = found refl e
-there_is r m w (nowhere e) h = absurd (omega arith)
+there_is : (m v : ℕ) (w : Word) (o : Option ℕ) → Some v ≡ answer_of o → Looks (Ok v) (elim o [ some v ↦ good v | none ↦ wrong m w ])
+there_is m v w none e = absurd (none-some v (sym e))
+there_is m v w (some u) e = found (ap (λ (k : ℕ). Ok k) (same_Some v u e))
 
-there-is-not : (r f m : ℕ) (w : Word) {o : Option ℕ} → Tells r o → 65536 ≤ r → f ≡ m → (m ≡ 0 → ⊥) → Looks f 0 (elim o [ some v ↦ good v | none ↦ wrong m w ])
-there-is-not r f m w (there e l) h q n = absurd (omega arith)
-there-is-not r f m w (nowhere e) h q n = missing q n
+there-is-not : (f : Fault) (m : ℕ) (w : Word) (o : Option ℕ) → None ≡ answer_of o → fault_number f ≡ m → Looks (Err f) (elim o [ some v ↦ good v | none ↦ wrong m w ])
+there-is-not f m w none e q = missing refl q
+there-is-not f m w (some u) e q = absurd (none-some u e)
 
 -- the fault of a type that is not among those before
 abbrev later : List Decl → Word → Checked ℕ
 later ds w = if given (index_of 5 w.text 0 ds) then wrong 3 w else wrong (elsewhere_in ds w.text) w
 
-module _ (ds : List Decl) (w : Word) (r : ℕ) where
-  pub value_there : (c : ℕ) → Tells r (find w.text (knowns_in c ds)) → r < 65536 → Looks 0 r (lookup_in ds c w)
+module _ (ds : List Decl) (w : Word) where
+  pub value_there : (c v : ℕ) → Some v ≡ answer_of (find w.text (knowns_in c ds)) → Looks (Ok v) (lookup_in ds c w)
   unfolding lookup_in
-  value_there c t h = there_is r _ w t h
+  value_there c v t = there_is _ v w _ t
 
-  pub value_not : (c f : ℕ) → Tells r (find w.text (knowns_in c ds)) → 65536 ≤ r → f ≡ elsewhere_in ds w.text → Looks f 0 (lookup_in ds c w)
+  pub value_not : (c : ℕ) (f : Fault) → None ≡ answer_of (find w.text (knowns_in c ds)) → fault_number f ≡ elsewhere_in ds w.text → Looks (Err f) (lookup_in ds c w)
   unfolding lookup_in
-  value_not c f t h e = there-is-not r f _ w t h e (elsewhere-some ds w.text)
+  value_not c f t e = there-is-not f _ w _ t e
 
-  pub row-there : (c : ℕ) → Tells r (index_of c w.text 0 ds) → r < 65536 → Looks 0 r (row_in c ds w)
+  pub row-there : (c i : ℕ) → Some i ≡ answer_of (index_of c w.text 0 ds) → Looks (Ok i) (row_in c ds w)
   unfolding row_in
-  row-there c t h = there_is r _ w t h
+  row-there c i t = there_is _ i w _ t
 
-  pub row-not : (c f : ℕ) → Tells r (index_of c w.text 0 ds) → 65536 ≤ r → f ≡ elsewhere_in ds w.text → Looks f 0 (row_in c ds w)
+  pub row-not : (c : ℕ) (f : Fault) → None ≡ answer_of (index_of c w.text 0 ds) → fault_number f ≡ elsewhere_in ds w.text → Looks (Err f) (row_in c ds w)
   unfolding row_in
-  row-not c f t h e = there-is-not r f _ w t h e (elsewhere-some ds w.text)
+  row-not c f t e = there-is-not f _ w _ t e
 
-  pub rule-clashes : true ≡ given (index_of 6 w.text 0 ds) → Looks 5 0 (rule_in ds w)
+  pub rule-clashes : true ≡ given (index_of 6 w.text 0 ds) → Looks (Err NotWanted) (rule_in ds w)
   unfolding rule_in
-  rule-clashes e = rw (sym e) (missing refl (λ z. omega arith))
+  rule-clashes e = rw (sym e) (missing refl refl)
 
-  pub rule-there : false ≡ given (index_of 6 w.text 0 ds) → Tells r (index_of 7 w.text 0 ds) → r < 65536 → Looks 0 r (rule_in ds w)
-  unfolding rule_in
-  rule-there e t h = rw (sym e) (there_is r _ w t h)
+  pub rule-rest : {r : Result ℕ Fault} → false ≡ given (index_of 6 w.text 0 ds) → Looks r (row_in 7 ds w) → Looks r (rule_in ds w)
+  unfolding rule_in row_in
+  rule-rest e t = rw (sym e) t
 
-  pub rule-not : (f : ℕ) → false ≡ given (index_of 6 w.text 0 ds) → Tells r (index_of 7 w.text 0 ds) → 65536 ≤ r → f ≡ elsewhere_in ds w.text → Looks f 0 (rule_in ds w)
-  unfolding rule_in
-  rule-not f e t h q = rw (sym e) (there-is-not r f _ w t h q (elsewhere-some ds w.text))
-
-  pub type-there : (before : List Decl) → Tells r (index_of 5 w.text 0 before) → r < 65536 → Looks 0 (8 + r) (type_in ds before w)
+  pub type-there : (before : List Decl) (i : ℕ) → Some i ≡ answer_of (index_of 5 w.text 0 before) → Looks (Ok (8 + i)) (type_in ds before w)
   unfolding type_in
-  type-there before t h = go t where
-    go : {o : Option ℕ} → Tells r o
-        → Looks 0 (8 + r) (elim o [ some i ↦ good (8 + i) | none ↦ later ds w ])
-    go (there e l) = found refl (ap (λ (k : ℕ). 8 + k) e)
-    go (nowhere e) = absurd (omega arith)
+  type-there before i t = go (index_of 5 w.text 0 before) t where
+    go : (o : Option ℕ) → Some i ≡ answer_of o → Looks (Ok (8 + i)) (elim o [ some i ↦ good (8 + i) | none ↦ later ds w ])
+    go none e = absurd (none-some i (sym e))
+    go (some u) e = found (ap (λ (k : ℕ). Ok (8 + k)) (same_Some i u e))
 
   -- no type among those before
-  type-none : (before : List Decl) → Tells r (index_of 5 w.text 0 before) → 65536 ≤ r
-      → type_in ds before w ≡ later ds w
+  type-none : (before : List Decl) → None ≡ answer_of (index_of 5 w.text 0 before) → type_in ds before w ≡ later ds w
   unfolding type_in
-  type-none before t h = go t where
-    go : {o : Option ℕ} → Tells r o
-        → elim o [ some i ↦ good (8 + i) | none ↦ later ds w ]
-        ≡ later ds w
-    go (there e l) = absurd (omega arith)
-    go (nowhere e) = refl
+  type-none before t = go (index_of 5 w.text 0 before) t where
+    go : (o : Option ℕ) → None ≡ answer_of o → elim o [ some i ↦ good (8 + i) | none ↦ later ds w ] ≡ later ds w
+    go none e = refl
+    go (some u) e = absurd (none-some u e)
 
-  pub type-later : (before : List Decl) → Tells r (index_of 5 w.text 0 before) → 65536 ≤ r → true ≡ given (index_of 5 w.text 0 ds) → Looks 3 0 (type_in ds before w)
-  type-later before t h e = rw (type-none before t h, sym e) (missing refl (λ z. omega arith))
+  pub type-later : (before : List Decl) → None ≡ answer_of (index_of 5 w.text 0 before) → true ≡ given (index_of 5 w.text 0 ds) → Looks (Err Undeclared) (type_in ds before w)
+  type-later before t e = rw (type-none before t, sym e) (missing refl refl)
 
-  pub type-not : (before : List Decl) (f : ℕ) → Tells r (index_of 5 w.text 0 before) → 65536 ≤ r → false ≡ given (index_of 5 w.text 0 ds)
-      → f ≡ elsewhere_in ds w.text → Looks f 0 (type_in ds before w)
-  type-not before f t h e q = rw (type-none before t h, sym e) (missing q (elsewhere-some ds w.text))
+  pub type-not : (before : List Decl) (f : Fault) → None ≡ answer_of (index_of 5 w.text 0 before) → false ≡ given (index_of 5 w.text 0 ds)
+      → fault_number f ≡ elsewhere_in ds w.text → Looks (Err f) (type_in ds before w)
+  type-not before f t e q = rw (type-none before t, sym e) (missing refl q)

@@ -1,6 +1,7 @@
 -- Laws of the searches through the row of declarations: each goes on to the next declaration, or ends at this one.
 use mathlib.Core.Bool.{Bool, true, false, ◌&&◌, ◌||◌}
 use mathlib.Core.List.{List, [], ◌∷◌, ◌++◌}
+use mathlib.Core.Logic.{◌⊎◌, inl, inr}
 use mathlib.Core.Option.{Option, none, some}
 use mathlib.Core.Path.{◌≡◌, refl, ap, sym, ◌∙◌}
 use Prim.Native.Nat.{ℕ, zero, suc, ◌+◌, ◌*◌, ◌-◌, ◌≤◌, ◌<◌}
@@ -9,12 +10,15 @@ use native.Mathlib.Omega.{arith}
 use lib.Dec.{eqb}
 use borrow.Author.Tests.{eq-eqb, ne_eqb}
 use lib.ListN.{length, get_or}
-use Rattle.std.specs.Prelude.{if◌then◌else◌}
-use Rattle.base.specs.Common.{same, member}
+use Rattle.std.specs.Prelude.{if◌then◌else◌, Option as Answer, Some, None, IfSome, unwrap_or, is_some}
+use Rattle.std.proofs.lemmas.Option.{none-some, same_Some}
+use Rattle.base.proofs.Laws.{lt-or-le}
+use Rattle.base.specs.Bools.{or₁, or₂}
+use Rattle.base.specs.Common.{same, member, given}
 use Rattle.declarations.specs.Decls.{Decl, decl_of, feeds, knowns_of, knowns_in, index_of, declared_in}
 use Rattle.names.specs.Known.{Known, find, is_word}
 use Rattle.names.specs.Declare.{values_of}
-use Rattle.symbols.specs.Rows.{decl_at, held_from, held, number_of}
+use Rattle.symbols.specs.Rows.{decl_at, held_from, held, number_of, answer_of}
 use Rattle.symbols.specs.Search.{serves, knows, named, declares, counts, Tells, there, nowhere}
 use Rattle.words.specs.Words.{Word}
 
@@ -137,14 +141,66 @@ pub told-number : {r : ℕ} {o : Option ℕ} → Tells r o → r ≡ number_of o
 told-number (there e l) = e
 told-number (nowhere e) = e
 
-pub both_told : {r : ℕ} {o : Option ℕ} → Tells r o → (r ≡ number_of o) × Tells r o
-both_told t = (told-number t, t)
-
 pub tells-there : (r v : ℕ) (o : Option ℕ) → o ≡ some v → r ≡ v → r < 65536 → Tells r o
 tells-there r v o e f l = rw e (there f (omega arith))
 
 pub tells-nowhere : (r : ℕ) (o : Option ℕ) → o ≡ none → r ≡ 65536 → Tells r o
 tells-nowhere r o e f = rw e (nowhere f)
+
+-- a number that is there, and none
+pub answers-there : (r v : ℕ) (o : Option ℕ) → o ≡ some v → r ≡ v → Some r ≡ answer_of o
+answers-there r v o e f = rw (e, f) refl
+
+pub answers-nowhere : (o : Option ℕ) → o ≡ none → None ≡ answer_of o
+answers-nowhere o e = rw e refl
+
+pub answer-some : {v : ℕ} (o : Option ℕ) → Some v ≡ answer_of o → o ≡ some v
+answer-some {v = v} none e = absurd (none-some v (sym e))
+answer-some {v = v} (some u) e = ap some (sym (same_Some v u e))
+
+pub answer-none : (o : Option ℕ) → None ≡ answer_of o → o ≡ none
+answer-none none e = refl
+answer-none (some u) e = absurd (none-some u e)
+
+-- an answer as a number v, 65,536 for none
+pub answer-tells : {v : ℕ} {r : Answer ℕ} {o : Option ℕ} → v ≡ unwrap_or r 65536 → r ≡ answer_of o → IfSome r (λ v. v < 65536) → Tells v o
+answer-tells {v = v} {r = r} {o = o} = go r o where
+  go : (r : Answer ℕ) (o : Option ℕ) → v ≡ unwrap_or r 65536 → r ≡ answer_of o → IfSome r (λ v. v < 65536) → Tells v o
+  go None none q e l = nowhere q
+  go None (some u) q e l = absurd (none-some u e)
+  go (Some r) none q e l = absurd (none-some r (sym e))
+  go (Some r) (some u) q e l = there (q ∙ same_Some r u e) (omega (arith, same_Some r u e, l))
+
+pub answer-row : {v n : ℕ} {r : Answer ℕ} {o : Option ℕ} → v ≡ unwrap_or r 65536 → r ≡ answer_of o → IfSome r (λ i. i < n) → n ≤ 512 → Tells v o
+answer-row {n = n} {r = r} q e l h = answer-tells q e (go r l) where
+  go : (r : Answer ℕ) → IfSome r (λ i. i < n) → IfSome r (λ v. v < 65536)
+  go None l = tt
+  go (Some i) l = omega (arith, l, h)
+
+pub answer-below : {v n : ℕ} (r : Answer ℕ) → v ≡ unwrap_or r 65536 → IfSome r (λ i. i < n) → v < 65536 → v < n
+answer-below {v = v} {n = n} r = go r where
+  go : (r : Answer ℕ) → v ≡ unwrap_or r 65536 → IfSome r (λ i. i < n) → v < 65536 → v < n
+  go None q l h = absurd (omega (arith, q, h))
+  go (Some i) q l h = omega (arith, q, l)
+
+pub answer-number : {v : ℕ} {r : Answer ℕ} (o : Option ℕ) → v ≡ unwrap_or r 65536 → r ≡ answer_of o → v ≡ number_of o
+answer-number o q e = q ∙ rw e (go o) where
+  go : (o : Option ℕ) → unwrap_or (answer_of o) 65536 ≡ number_of o
+  go none = refl
+  go (some v) = refl
+
+pub answer-given : {r : Answer ℕ} (o : Option ℕ) → r ≡ answer_of o → is_some r ≡ given o
+answer-given o e = rw e (go o) where
+  go : (o : Option ℕ) → is_some (answer_of o) ≡ given o
+  go none = refl
+  go (some v) = refl
+
+-- one of two neighbours
+pub one_of_two : (n c : ℕ) → n ≤ c → c ≤ n + 1 → (eqb c n || eqb c (n + 1)) ≡ true
+one_of_two n c l h = go (lt-or-le n c) where
+  go : (n < c) ⊎ (c ≤ n) → (eqb c n || eqb c (n + 1)) ≡ true
+  go (inl m) = or₂ (eqb c n) _ (eq-eqb c (n + 1) (omega (arith, m, h)))
+  go (inr m) = or₁ (eqb c n) _ (eq-eqb c n (omega (arith, m, l)))
 
 -- a declaration's class, in the row
 

@@ -1,7 +1,10 @@
 -- The row of declarations as the code keeps it: eight 16-bit numbers a declaration. Words are places of the text, a length 0 stands for no word.
 use Rattle.std.specs.Prelude.{List, [], ◌∷◌, ◌≡◌, ℕ, zero, suc, ◌+◌, ◌*◌, eqb, get_or, take, drop, if◌then◌else◌}
 use Rattle.std.proofs.Math.Option.{Option, none, some}
+use Rattle.std.specs.Prelude.{Option as Answer, Some, None, Result, Ok, Err}
 use Rattle.base.specs.Common.{given}
+use Rattle.base.specs.Faults.{fault_number}
+use Rattle.base.specs.declared.Fault.{Fault}
 use Rattle.declarations.specs.Decls.{Decl, index_of, elsewhere_in, knowns_in}
 use Rattle.names.specs.Known.{Checked, good, wrong, Known}
 use Rattle.words.specs.Words.{Word}
@@ -36,7 +39,12 @@ held_from text rows i (suc n) = decl_at text rows i ∷ held_from text rows (suc
 unfoldable pub held : List ℕ → List ℕ → ℕ → List Decl
 held text rows n = held_from text rows 0 n
 
--- a number that is there, or 65,536
+-- what the code answers: a number that is there, or none
+abbrev pub answer_of : Option ℕ → Answer ℕ
+answer_of none = None
+answer_of (some v) = Some v
+
+-- the same in a row of numbers: a number that is there, or 65,536
 abbrev pub number_of : Option ℕ → ℕ
 number_of none = 65536
 number_of (some v) = v
@@ -59,10 +67,10 @@ rule_in ds w =
     if given (index_of 6 w.text 0 ds) then wrong 5 w
     else elim (index_of 7 w.text 0 ds) [ some i ↦ good i | none ↦ wrong (elsewhere_in ds w.text) w ]
 
--- an answer of the code, a fault or a value, tells what a check gives; the word at fault is the one that was looked up
-pub data Looks (fault value : ℕ) : Checked ℕ → Type 0 where
-  found : {v : ℕ} → fault ≡ 0 → value ≡ v → Looks fault value (good v)
-  missing : {n : ℕ} {w : Word} → fault ≡ n → (n ≡ 0 → ⊥) → Looks fault value (wrong n w)
+-- an answer of the code, a value or a fault, tells what a check gives; the word at fault is the one that was looked up
+pub data Looks (r : Result ℕ Fault) : Checked ℕ → Type 0 where
+  found : {v : ℕ} → r ≡ Ok v → Looks r (good v)
+  missing : {n : ℕ} {f : Fault} {w : Word} → r ≡ Err f → fault_number f ≡ n → Looks r (wrong n w)
 
 -- the members of the class, none for class 0
 unfoldable pub gives_of : List Decl → ℕ → Option (List Known)

@@ -2,16 +2,17 @@
 // read as 0, and a part of the text that reaches past the text's end is cut there.
 #![tactic(auto)]
 
-ghost use Rattle.std.specs.Prelude.{◌≡◌, List, ℕ, ◌+◌, ◌*◌, ◌-◌, ◌<◌, ◌≤◌, length, get_or};
+ghost use Rattle.std.specs.Prelude.{◌≡◌, List, ℕ, ◌+◌, ◌*◌, ◌-◌, ◌<◌, ◌≤◌, length, get_or, IfSome, IfOk, MatchResult};
 ghost use Rattle.base.specs.Common.{same, member, given};
+ghost use Rattle.base.specs.Faults.{fault_number};
 ghost use Rattle.names.specs.Known.{find, is_word};
 ghost use Rattle.names.specs.Declare.{values_of};
 ghost use Rattle.declarations.specs.Decls.{knowns_in, index_of, declared_in, elsewhere_in, lookup_in, type_in};
 ghost use Rattle.symbols.specs.Index.{seed_of, bucket_of, head_at, key_of, next_of, push_rows, push_second, push_name, RowsKept, Kept};
-ghost use Rattle.symbols.specs.Rows.{word_of, decl_at, held, number_of, row_in, operation_in, operators_row, rule_in, Looks};
-ghost use Rattle.symbols.specs.Search.{part, serves, knows, named, declares, counts, Tells};
+ghost use Rattle.symbols.specs.Rows.{word_of, decl_at, held, answer_of, row_in, operation_in, operators_row, rule_in, Looks};
+ghost use Rattle.symbols.specs.Search.{part, serves, knows, named, declares, counts};
 
-use base::{byte, number};
+use base::{Fault, number, part};
 
 // A declaration takes this many numbers of the rows: its class, its value, and where its words stand.
 pub const ROW: usize = 8;
@@ -85,7 +86,7 @@ const LONG: usize = 32;
 // So few rows have no chain that takes long.
 const FEW: usize = 64;
 
-// No value and no declaration: more than any.
+// In a row of numbers: no value and no declaration, more than any.
 pub const NONE: usize = 65536;
 
 // Parts of the text
@@ -94,38 +95,14 @@ pub const NONE: usize = 65536;
 pub fn part_len(text: &[u8], start: usize, len: usize) -> usize
     ensures { result ≡ length (part text.now start len) }
 {
-    if text.len() <= start {
-        return 0;
-    }
-    if len <= text.len() - start {
-        return len;
-    }
-    text.len() - start
+    part(text, start, len).len()
 }
 
-// The n bytes at a and those at b are the same.
-fn same_bytes(text: &[u8], a: usize, b: usize, n: usize) -> bool
-    requires { (n ≤ length text.now - a) × (n ≤ length text.now - b) }
-    ensures { result ≡ same (part text.now a n) (part text.now b n) }
-{
-    let mut i = 0;
-    while i < n {
-        if text[a + i] != text[b + i] {
-            return false;
-        }
-        i += 1;
-    }
-    true
-}
-
+#[tactic(auto, using(base::proofs::Laws::same_slices))]
 pub fn same_part(text: &[u8], a: usize, alen: usize, b: usize, blen: usize) -> bool
     ensures { result ≡ same (part text.now a alen) (part text.now b blen) }
 {
-    let n = part_len(text, a, alen);
-    if n != part_len(text, b, blen) {
-        return false;
-    }
-    same_bytes(text, a, b, n)
+    part(text, a, alen) == part(text, b, blen)
 }
 
 // One declaration
@@ -134,16 +111,7 @@ pub fn same_part(text: &[u8], a: usize, alen: usize, b: usize, blen: usize) -> b
 fn serves(c: usize, d: usize) -> bool
     ensures { result ≡ serves c d }
 {
-    if d == c {
-        return true;
-    }
-    if d != BOTH {
-        return false;
-    }
-    if c == INPUT {
-        return true;
-    }
-    c == OUTPUT
+    d == c || d == BOTH && matches!(c, INPUT | OUTPUT)
 }
 
 // The part is the name of declaration i.
@@ -166,10 +134,7 @@ fn is_second(text: &[u8], rows: &[u16], i: usize, start: usize, len: usize) -> b
     ensures { result ≡ is_word (part text.now start len) (decl_at text.now rows.now i).second }
 {
     let n = number(rows, ROW * i + SECOND_LEN);
-    if n == 0 {
-        return false;
-    }
-    same_part(text, start, len, number(rows, ROW * i + SECOND_START), n)
+    n != 0 && same_part(text, start, len, number(rows, ROW * i + SECOND_START), n)
 }
 
 // The part is its name or its string, in the class.
@@ -177,13 +142,8 @@ fn knows(text: &[u8], rows: &[u16], i: usize, class: usize, start: usize, len: u
     requires { i ≤ 512 }
     ensures { result ≡ knows class (part text.now start len) (decl_at text.now rows.now i) }
 {
-    if !serves(class, number(rows, ROW * i)) {
-        return false;
-    }
-    if is_name(text, rows, i, start, len) {
-        return true;
-    }
-    is_second(text, rows, i, start, len)
+    serves(class, number(rows, ROW * i))
+        && (is_name(text, rows, i, start, len) || is_second(text, rows, i, start, len))
 }
 
 // The part is its name, and this is its class.
@@ -191,10 +151,7 @@ fn named(text: &[u8], rows: &[u16], i: usize, class: usize, start: usize, len: u
     requires { i ≤ 512 }
     ensures { result ≡ named class (part text.now start len) (decl_at text.now rows.now i) }
 {
-    if number(rows, ROW * i) != class {
-        return false;
-    }
-    is_name(text, rows, i, start, len)
+    number(rows, ROW * i) == class && is_name(text, rows, i, start, len)
 }
 
 // The part is declared by it.
@@ -202,13 +159,8 @@ fn declares(text: &[u8], rows: &[u16], i: usize, start: usize, len: usize) -> bo
     requires { i ≤ 512 }
     ensures { result ≡ declares (part text.now start len) (decl_at text.now rows.now i) }
 {
-    if is_name(text, rows, i, start, len) {
-        return true;
-    }
-    if number(rows, ROW * i) == OPERATION {
-        return false;
-    }
-    is_second(text, rows, i, start, len)
+    is_name(text, rows, i, start, len)
+        || number(rows, ROW * i) != OPERATION && is_second(text, rows, i, start, len)
 }
 
 // It has the value in the class.
@@ -216,10 +168,7 @@ fn counts(rows: &[u16], i: usize, class: usize, v: usize) -> bool
     requires { i ≤ 512 }
     ensures { result ≡ counts class v (get_or rows.now (8 * i) 0) (get_or rows.now (8 * i + 1) 0) }
 {
-    if v != number(rows, ROW * i + VALUE) {
-        return false;
-    }
-    serves(class, number(rows, ROW * i))
+    v == number(rows, ROW * i + VALUE) && serves(class, number(rows, ROW * i))
 }
 
 // The index by names
@@ -229,13 +178,10 @@ fn seed(class: usize) -> usize
     ensures same { result ≡ seed_of class }
     ensures low { result < 281474976710656 }
 {
-    if class == OUTPUT {
-        return INPUT;
+    match class {
+        OUTPUT | BOTH => INPUT,
+        _ => class % MODULUS,
     }
-    if class == BOTH {
-        return INPUT;
-    }
-    class % MODULUS
 }
 
 // The chain of a word of a class, by a key.
@@ -244,12 +190,9 @@ fn bucket(text: &[u8], key: usize, class: usize, start: usize, len: usize) -> us
     ensures value { result ≡ bucket_of key class (part text.now start len) }
     ensures upper_bound { result < 511 }
 {
-    let n = part_len(text, start, len);
     let mut h = seed(class);
-    let mut i: usize = 0;
-    while i < n {
-        h = (h * key + byte(text[start + i])) % MODULUS;
-        i += 1;
+    for &b in part(text, start, len) {
+        h = (h * key + usize::from(b)) % MODULUS;
     }
     h % BUCKETS
 }
@@ -259,8 +202,7 @@ fn push_node(rows: &mut [u16], b: usize, k: usize)
     requires { (length rows.old ≡ 6017) × (b < 511) × (k < 1024) }
     ensures { rows.new ≡ push_rows rows.old b k }
 {
-    let first = rows[HEADS + b];
-    rows[LINKS + k] = first;
+    rows[LINKS + k] = rows[HEADS + b];
     rows[HEADS + b] = (k + 1) as u16;
 }
 
@@ -300,11 +242,7 @@ fn clear_heads(rows: &mut [u16], key: usize)
     ensures clear { (b : ℕ) → b < 511 → head_at rows.new b ≡ 0 }
     ensures keyed { key_of rows.new ≡ key }
 {
-    let mut b: usize = 0;
-    while b < BUCKETS {
-        rows[HEADS + b] = 0;
-        b += 1;
-    }
+    rows[HEADS..HEADS + BUCKETS].fill(0);
     rows[KEY] = key as u16;
 }
 
@@ -327,10 +265,7 @@ fn next_node(rows: &[u16], p: usize) -> usize
     ensures low { result < 65536 }
 {
     let q = number(rows, LINKS + (p - 1));
-    if p < q {
-        return q;
-    }
-    0
+    if p < q { q } else { 0 }
 }
 
 // The first n rows are put into the chains of their words by a key, the last row first.
@@ -340,9 +275,7 @@ fn build(text: &[u8], rows: &mut [u16], n: usize, key: usize)
     ensures rows { RowsKept rows.old rows.new }
 {
     clear_heads(rows, key);
-    let mut i = n;
-    while 0 < i {
-        i -= 1;
+    for i in (0..n).rev() {
         push_second(text, rows, key, i);
         push_name(text, rows, key, i);
     }
@@ -354,8 +287,9 @@ fn nodes_of(rows: &[u16], b: usize) -> usize
 {
     let mut k: usize = 0;
     let mut p = number(rows, HEADS + b);
+    // no range: a node says which comes next
     while p != 0 {
-        k = k + 1;
+        k += 1;
         p = next_node(rows, p);
     }
     k
@@ -363,14 +297,9 @@ fn nodes_of(rows: &[u16], b: usize) -> usize
 
 // How many nodes the longest chain has.
 fn longest(rows: &[u16]) -> usize {
-    let mut most: usize = 0;
-    let mut b: usize = 0;
-    while b < BUCKETS {
-        let k = nodes_of(rows, b);
-        if most < k {
-            most = k;
-        }
-        b += 1;
+    let mut most = 0;
+    for b in 0..BUCKETS {
+        most = most.max(nodes_of(rows, b));
     }
     most
 }
@@ -383,8 +312,7 @@ fn best_key(text: &[u8], rows: &mut [u16], n: usize) -> usize
 {
     let mut best = FIRST_KEY;
     let mut least = longest(rows);
-    let mut key = FIRST_KEY + KEY_STEP;
-    while key < LAST_KEY {
+    for key in (FIRST_KEY + KEY_STEP..LAST_KEY).step_by(KEY_STEP) {
         if least <= LONG {
             return best;
         }
@@ -394,7 +322,6 @@ fn best_key(text: &[u8], rows: &mut [u16], n: usize) -> usize
             best = key;
             least = k;
         }
-        key += KEY_STEP;
     }
     best
 }
@@ -407,10 +334,7 @@ pub fn index(text: &[u8], rows: &mut [u16], n: usize)
     ensures held { (t : List ℕ) → held t rows.new n ≡ held t rows.old n }
 {
     build(text, rows, n, FIRST_KEY);
-    if n <= FEW {
-        return;
-    }
-    if longest(rows) <= LONG {
+    if n <= FEW || longest(rows) <= LONG {
         return;
     }
     let key = best_key(text, rows, n);
@@ -419,7 +343,7 @@ pub fn index(text: &[u8], rows: &mut [u16], n: usize)
 
 // The row
 
-// The value of a part in a class, 65,536 where it has none.
+// The value of a part in a class, where it has one.
 pub fn find_value(
     text: &[u8],
     rows: &[u16],
@@ -427,26 +351,27 @@ pub fn find_value(
     class: usize,
     start: usize,
     len: usize,
-) -> usize
+) -> Option<usize>
     requires { Kept text.now rows.now n }
-    ensures same { result ≡ number_of (find (part text.now start len) (knowns_in class (held text.now rows.now n))) }
-    ensures tells { Tells result (find (part text.now start len) (knowns_in class (held text.now rows.now n))) }
+    ensures same { result ≡ answer_of (find (part text.now start len) (knowns_in class (held text.now rows.now n))) }
+    ensures low { IfSome result (λ v. v < 65536) }
 {
     let mut p = first_node(text, rows, class, start, len);
+    // no range: a node says which comes next
     while p != 0 {
         let i = (p - 1) / 2;
         if n <= i {
-            return NONE;
+            return None;
         }
         if knows(text, rows, i, class, start, len) {
-            return number(rows, ROW * i + VALUE);
+            return Some(number(rows, ROW * i + VALUE));
         }
         p = next_node(rows, p);
     }
-    NONE
+    None
 }
 
-// The first declaration of the class that has the part as its name, 65,536 where there is none.
+// The first declaration of the class that has the part as its name.
 pub fn find_row(
     text: &[u8],
     rows: &[u16],
@@ -454,24 +379,24 @@ pub fn find_row(
     class: usize,
     start: usize,
     len: usize,
-) -> usize
+) -> Option<usize>
     requires { Kept text.now rows.now n }
-    ensures same { result ≡ number_of (index_of class (part text.now start len) 0 (held text.now rows.now n)) }
-    ensures tells { Tells result (index_of class (part text.now start len) 0 (held text.now rows.now n)) }
-    ensures below { result < 65536 → result < n }
+    ensures same { result ≡ answer_of (index_of class (part text.now start len) 0 (held text.now rows.now n)) }
+    ensures below { IfSome result (λ i. i < n) }
 {
     let mut p = first_node(text, rows, class, start, len);
+    // no range: a node says which comes next
     while p != 0 {
         let i = (p - 1) / 2;
         if n <= i {
-            return NONE;
+            return None;
         }
         if named(text, rows, i, class, start, len) {
-            return i;
+            return Some(i);
         }
         p = next_node(rows, p);
     }
-    NONE
+    None
 }
 
 // The class has the part as a name or string.
@@ -479,7 +404,7 @@ pub fn is_known(text: &[u8], rows: &[u16], n: usize, class: usize, start: usize,
     requires { Kept text.now rows.now n }
     ensures { result ≡ given (find (part text.now start len) (knowns_in class (held text.now rows.now n))) }
 {
-    find_value(text, rows, n, class, start, len) < NONE
+    find_value(text, rows, n, class, start, len).is_some()
 }
 
 // There is a declaration of the class that has the part as its name.
@@ -487,7 +412,7 @@ pub fn has_row(text: &[u8], rows: &[u16], n: usize, class: usize, start: usize, 
     requires { Kept text.now rows.now n }
     ensures { result ≡ given (index_of class (part text.now start len) 0 (held text.now rows.now n)) }
 {
-    find_row(text, rows, n, class, start, len) < NONE
+    find_row(text, rows, n, class, start, len).is_some()
 }
 
 // The part is declared in some class. The index goes by classes, so each row is asked: a lookup that failed asks this, for its fault.
@@ -495,12 +420,10 @@ pub fn is_declared(text: &[u8], rows: &[u16], n: usize, start: usize, len: usize
     requires { Kept text.now rows.now n }
     ensures { result ≡ declared_in (part text.now start len) (held text.now rows.now n) }
 {
-    let mut i = 0;
-    while i < n {
+    for i in 0..n {
         if declares(text, rows, i, start, len) {
             return true;
         }
-        i += 1;
     }
     false
 }
@@ -510,34 +433,46 @@ pub fn has_value(rows: &[u16], n: usize, class: usize, v: usize) -> bool
     requires { n ≤ 512 }
     ensures { (text : List ℕ) → result ≡ member v (values_of (knowns_in class (held text rows.now n))) }
 {
-    let mut i = 0;
-    while i < n {
+    for i in 0..n {
         if counts(rows, i, class, v) {
             return true;
         }
-        i += 1;
     }
     false
 }
 
 // Words looked up
 
-// A fault, or 0 and a value.
+// A fault's number, or 0 and a value.
 #[derive(Clone, Copy)]
 pub struct Looked {
     pub fault: u16,
     pub value: usize,
 }
 
+// What was looked up, in numbers.
+pub fn numbers_of(found: Result<usize, Fault>) -> Looked
+    ensures { MatchResult found (λ v. (result.fault ≡ 0) × (result.value ≡ v)) (λ f. (result.fault ≡ fault_number f) × (result.value ≡ 0)) }
+{
+    match found {
+        Ok(value) => Looked { fault: 0, value },
+        Err(fault) => Looked {
+            fault: u16::from(fault),
+            value: 0,
+        },
+    }
+}
+
 // The fault of a part that is not in the class wanted.
-fn elsewhere(text: &[u8], rows: &[u16], n: usize, start: usize, len: usize) -> u16
+fn elsewhere(text: &[u8], rows: &[u16], n: usize, start: usize, len: usize) -> Fault
     requires { Kept text.now rows.now n }
-    ensures { result ≡ elsewhere_in (held text.now rows.now n) (part text.now start len) }
+    ensures { fault_number result ≡ elsewhere_in (held text.now rows.now n) (part text.now start len) }
 {
     if is_declared(text, rows, n, start, len) {
-        return base::NOT_WANTED;
+        Fault::NotWanted
+    } else {
+        Fault::Undeclared
     }
-    base::UNDECLARED
 }
 
 // The value of a word in a class.
@@ -548,75 +483,82 @@ pub fn value_of(
     class: usize,
     start: usize,
     len: usize,
-) -> Looked
+) -> Result<usize, Fault>
     requires { Kept text.now rows.now n }
-    ensures looks { (kind : ℕ) → Looks result.fault result.value (lookup_in (held text.now rows.now n) class (word_of text.now kind start len)) }
-    ensures low { result.value < 65536 }
+    ensures looks { (kind : ℕ) → Looks result (lookup_in (held text.now rows.now n) class (word_of text.now kind start len)) }
+    ensures low { IfOk result (λ v. v < 65536) }
 {
-    let v = find_value(text, rows, n, class, start, len);
-    if v < NONE {
-        return Looked { fault: 0, value: v };
-    }
-    Looked {
-        fault: elsewhere(text, rows, n, start, len),
-        value: 0,
+    match find_value(text, rows, n, class, start, len) {
+        Some(v) => Ok(v),
+        None => Err(elsewhere(text, rows, n, start, len)),
     }
 }
 
 // The declaration of a class that has the name.
-fn row_of(text: &[u8], rows: &[u16], n: usize, class: usize, start: usize, len: usize) -> Looked
+fn row_of(
+    text: &[u8],
+    rows: &[u16],
+    n: usize,
+    class: usize,
+    start: usize,
+    len: usize,
+) -> Result<usize, Fault>
     requires { Kept text.now rows.now n }
-    ensures looks { (kind : ℕ) → Looks result.fault result.value (row_in class (held text.now rows.now n) (word_of text.now kind start len)) }
-    ensures low { result.fault ≡ 0 → result.value < n }
+    ensures looks { (kind : ℕ) → Looks result (row_in class (held text.now rows.now n) (word_of text.now kind start len)) }
+    ensures low { IfOk result (λ i. i < n) }
 {
-    let i = find_row(text, rows, n, class, start, len);
-    if i < NONE {
-        return Looked { fault: 0, value: i };
-    }
-    Looked {
-        fault: elsewhere(text, rows, n, start, len),
-        value: 0,
+    match find_row(text, rows, n, class, start, len) {
+        Some(i) => Ok(i),
+        None => Err(elsewhere(text, rows, n, start, len)),
     }
 }
 
 // The declaration of an operation.
-pub fn operation_of(text: &[u8], rows: &[u16], n: usize, start: usize, len: usize) -> Looked
+pub fn operation_of(
+    text: &[u8],
+    rows: &[u16],
+    n: usize,
+    start: usize,
+    len: usize,
+) -> Result<usize, Fault>
     requires { Kept text.now rows.now n }
-    ensures looks { (kind : ℕ) → Looks result.fault result.value (operation_in (held text.now rows.now n) (word_of text.now kind start len)) }
-    ensures low { result.fault ≡ 0 → result.value < n }
+    ensures looks { (kind : ℕ) → Looks result (operation_in (held text.now rows.now n) (word_of text.now kind start len)) }
+    ensures low { IfOk result (λ i. i < n) }
 {
     row_of(text, rows, n, OPERATION, start, len)
 }
 
 // The declaration of a section of operators.
-pub fn operators_of(text: &[u8], rows: &[u16], n: usize, start: usize, len: usize) -> Looked
+pub fn operators_of(
+    text: &[u8],
+    rows: &[u16],
+    n: usize,
+    start: usize,
+    len: usize,
+) -> Result<usize, Fault>
     requires { Kept text.now rows.now n }
-    ensures looks { (kind : ℕ) → Looks result.fault result.value (operators_row (held text.now rows.now n) (word_of text.now kind start len)) }
-    ensures low { result.fault ≡ 0 → result.value < n }
+    ensures looks { (kind : ℕ) → Looks result (operators_row (held text.now rows.now n) (word_of text.now kind start len)) }
+    ensures low { IfOk result (λ i. i < n) }
 {
     row_of(text, rows, n, OPERATORS, start, len)
 }
 
 // The declaration of a rule.
-pub fn rule_of(text: &[u8], rows: &[u16], n: usize, start: usize, len: usize) -> Looked
+pub fn rule_of(
+    text: &[u8],
+    rows: &[u16],
+    n: usize,
+    start: usize,
+    len: usize,
+) -> Result<usize, Fault>
     requires { Kept text.now rows.now n }
-    ensures looks { (kind : ℕ) → Looks result.fault result.value (rule_in (held text.now rows.now n) (word_of text.now kind start len)) }
-    ensures low { result.fault ≡ 0 → result.value < n }
+    ensures looks { (kind : ℕ) → Looks result (rule_in (held text.now rows.now n) (word_of text.now kind start len)) }
+    ensures low { IfOk result (λ i. i < n) }
 {
     if has_row(text, rows, n, OPERATION, start, len) {
-        return Looked {
-            fault: base::NOT_WANTED,
-            value: 0,
-        };
+        return Err(Fault::NotWanted);
     }
-    let i = find_row(text, rows, n, RULE, start, len);
-    if i < NONE {
-        return Looked { fault: 0, value: i };
-    }
-    Looked {
-        fault: elsewhere(text, rows, n, start, len),
-        value: 0,
-    }
+    row_of(text, rows, n, RULE, start, len)
 }
 
 // The class of a type that is one of the first `before` declarations.
@@ -627,26 +569,16 @@ pub fn type_of(
     before: usize,
     start: usize,
     len: usize,
-) -> Looked
+) -> Result<usize, Fault>
     requires { Kept text.now rows.now n × (before ≤ n) }
-    ensures looks { (kind : ℕ) → Looks result.fault result.value (type_in (held text.now rows.now n) (held text.now rows.now before) (word_of text.now kind start len)) }
-    ensures low { result.fault ≡ 0 → result.value < 8 + before }
+    ensures looks { (kind : ℕ) → Looks result (type_in (held text.now rows.now n) (held text.now rows.now before) (word_of text.now kind start len)) }
+    ensures low { IfOk result (λ c. c < 8 + before) }
 {
-    let i = find_row(text, rows, before, TYPE, start, len);
-    if i < NONE {
-        return Looked {
-            fault: 0,
-            value: VALUES + i,
-        };
+    if let Some(i) = find_row(text, rows, before, TYPE, start, len) {
+        return Ok(VALUES + i);
     }
     if has_row(text, rows, n, TYPE, start, len) {
-        return Looked {
-            fault: base::UNDECLARED,
-            value: 0,
-        };
+        return Err(Fault::Undeclared);
     }
-    Looked {
-        fault: elsewhere(text, rows, n, start, len),
-        value: 0,
-    }
+    Err(elsewhere(text, rows, n, start, len))
 }

@@ -8,7 +8,7 @@ use Rattle.frontend.proofs.Steps.{decides-fault, process-fault}
 use Rattle.machine.specs.Bytes.{count}
 use Rattle.processor.specs.Process.{refused, part_of, read_in, understood, process}
 use Rattle.reader.specs.Counting.{Decides}
-use Rattle.reader.specs.declared.Out.{Out}
+use Rattle.reader.specs.Answers.{Out}
 use Rattle.syntax.specs.Parse.{parse}
 use Rattle.syntax.specs.Reading.{fault}
 use Rattle.translator.specs.Answered.{Settles}

@@ -130,12 +130,13 @@ pub fn finish(
     if frontend::CELLS < b.cells {
         return refuse(table, base::TOO_SHORT, size, 0);
     }
-    let e = emitter::emit(cells, sorts, b.rules, table);
-    if e.fault != 0 {
-        return refusal(base::TOO_SHORT, size, 0);
+    match emitter::emit(cells, sorts, b.rules, table) {
+        Err(_) => refusal(base::TOO_SHORT, size, 0),
+        Ok(words) => {
+            let finishing = verdict::verdict(cells, starts, b.rules, spare);
+            acceptance(words, finishing)
+        }
     }
-    let finishing = verdict::verdict(cells, starts, b.rules, spare);
-    acceptance(e.size, finishing)
 }
 
 // An answer but for its figure, and how many rules were placed.
@@ -175,9 +176,8 @@ fn translate(text: &[u8], table: &mut [u8], places: &mut [usize]) -> Translated
 pub fn process(text: &[u8], table: &mut [u8]) -> Answer
     ensures { Settles (means.process text.now (count table.old)) (figure_of text.now (count table.old)) table.old table.new result }
 {
-    let s = reader::check_syntax(text);
-    if s.fault != 0 {
-        return refuse(table, s.fault, s.at, s.len);
+    if let Err(e) = reader::check_syntax(text) {
+        return refuse(table, u16::from(e.fault), e.at, e.len);
     }
     let mut places = [0usize; frontend::RULES];
     let t = translate(text, table, &mut places);

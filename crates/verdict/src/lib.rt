@@ -1,4 +1,6 @@
 // Whether a program is finishing, computed over its cells.
+// Loops and tests here go by indices and returns: ranges, `match` and the library's tests were tried, and take more
+// instructions than scripts/text-costs allows (docs/DESIGN-PASS.md).
 #![tactic(auto)]
 
 ghost use Rattle.std.specs.Prelude.{◌≡◌, ℕ, ◌+◌, ◌-◌, ◌<◌, ◌≤◌, true, false, ◌||◌, ◌&&◌, eqb, length, get_or, take, drop, ◌*◌, not};
@@ -6,7 +8,7 @@ ghost use Rattle.base.specs.Common.{member as listed};
 ghost use Rattle.finishing.specs.Test.{some_below};
 ghost use Rattle.verdict.specs.Told.{member, some_in, known_in, Simple, Giving, Then, Either, Covers, Worth, Cycled, Calling, Placed, past_cell, takes, heads, LeafTold, ActTold, ActsTold, AltsTold, ValuedTold, Collected, RuleTold, row_of, sought, GatheredTold, NotedTold, NotesTold, Joined, AskedTold, TriedTold, LookedTold, SweepTold, LearntTold, alike, Puts, Widened, Closure, Arrows, Verdict};
 
-use base::{cell, number, wide};
+use base::{cell, number};
 
 // First cells as a number that places are counted in.
 const END: usize = cells::END as usize;
@@ -55,6 +57,13 @@ const MOST_WANTED: usize = SET_BITS;
 
 // The table of calls, two words for each rule.
 const CALL_WORDS: usize = 2 * base::RULES;
+
+// A word as a number that places are counted in: a cast in place would ask at each use that it fits.
+fn wide(x: u16) -> usize
+    ensures { (result ≡ x) × (result < 65536) }
+{
+    usize::from(x)
+}
 
 // A set of rules, a bit for each: rules 0 to 63 in lo, 64 to 127 in hi.
 #[derive(Clone, Copy)]

@@ -1,7 +1,8 @@
 -- What a call's code gives, by phase, is what `whole_of` and `paused_of` say. Assumes nothing.
 use mathlib.Core.Path.{◌≡◌, refl, sym, ap, ◌∙◌}
-use mathlib.Core.Bool.{Bool, true, false}
+use mathlib.Core.Bool.{true, false}
 use mathlib.Core.List.{List, []}
+use Rattle.std.specs.Prelude.{Option, Some, None}
 use Prim.Native.Nat.{ℕ}
 use Rattle.walker.specs.Shape.{Outcome, answered_one, first64, number_of, go_of, kept_of, whole_of, paused_of}
 use Rattle.walker.specs.declared.Phase.{Phase}
@@ -23,31 +24,31 @@ module _ (t k : List ℕ) (n : ℕ) (w : Walk) (o : List ℕ) where
     unfolding whole_of
     whole-waits p = rw p refl
 
-    pub whole-stops : (x : Reason) (m : ℕ) → w.phase ≡ Phase.Stopped x → m ≡ number_of x → kept_of w o m ≡ whole_of t k a n w o w.phase
+    pub whole-stops : (x : Reason) → w.phase ≡ Phase.Stopped x → kept_of w o (number_of x) ≡ whole_of t k a n w o w.phase
     unfolding whole_of
-    whole-stops x m p q = ap (kept_of w o) q ∙ sym (ap (whole_of t k a n w o) p)
+    whole-stops x p = sym (ap (whole_of t k a n w o) p)
 
-  module _ (given : Bool) (x : ℕ) where
-    pub paused-goes : (b : List ℕ) (v : Walk) → v.at ≡ first64 w.at → v.returns ≡ w.returns → w.phase ≡ Phase.Going → given ≡ false → go_of t k b true n v.at v.returns o 0 0 ≡ paused_of t k given x n w o w.phase
+  module _ (g : Option ℕ) where
+    pub paused-goes : (b : List ℕ) (v : Walk) → v.at ≡ first64 w.at → v.returns ≡ w.returns → w.phase ≡ Phase.Going → g ≡ None → go_of t k b true n v.at v.returns o 0 0 ≡ paused_of t k g n w o w.phase
     unfolding paused_of
-    paused-goes b v q r p g = rw (p, g, q, r) (go-paused t k b [] n (first64 w.at) w.returns o 0 0)
+    paused-goes b v q r p e = rw (p, e, q, r) (go-paused t k b [] n (first64 w.at) w.returns o 0 0)
 
-    pub paused-answers : (b : List ℕ) (v : Walk) → v.at ≡ answered_one (first64 w.at) x → v.returns ≡ w.returns → w.phase ≡ Phase.Waiting → given ≡ true → go_of t k b true n v.at v.returns o 0 0 ≡ paused_of t k given x n w o w.phase
+    pub paused-answers : (x : ℕ) (b : List ℕ) (v : Walk) → v.at ≡ answered_one (first64 w.at) x → v.returns ≡ w.returns → w.phase ≡ Phase.Waiting → g ≡ Some x → go_of t k b true n v.at v.returns o 0 0 ≡ paused_of t k g n w o w.phase
     unfolding paused_of
-    paused-answers b v q r p g = rw (p, g, q, r) (go-paused t k b [] n (answered_one (first64 w.at) x) w.returns o 0 0)
+    paused-answers x b v q r p e = rw (p, e, q, r) (go-paused t k b [] n (answered_one (first64 w.at) x) w.returns o 0 0)
 
-    pub paused-stops : (y : Reason) (m : ℕ) → w.phase ≡ Phase.Stopped y → m ≡ number_of y → given ≡ false → kept_of w o m ≡ paused_of t k given x n w o w.phase
+    pub paused-stops : (y : Reason) → w.phase ≡ Phase.Stopped y → g ≡ None → kept_of w o (number_of y) ≡ paused_of t k g n w o w.phase
     unfolding paused_of
-    paused-stops y m p q g = rw g (ap (kept_of w o) q ∙ sym (ap (paused_of t k false x n w o) p))
+    paused-stops y p e = rw e (sym (ap (paused_of t k None n w o) p))
 
-    pub refused-going : w.phase ≡ Phase.Going → given ≡ true → kept_of w o 21 ≡ paused_of t k given x n w o w.phase
+    pub refused-going : (x : ℕ) → w.phase ≡ Phase.Going → g ≡ Some x → kept_of w o 21 ≡ paused_of t k g n w o w.phase
     unfolding paused_of
-    refused-going p g = rw (p, g) refl
+    refused-going x p e = rw (p, e) refl
 
-    pub refused-waiting : w.phase ≡ Phase.Waiting → given ≡ false → kept_of w o 21 ≡ paused_of t k given x n w o w.phase
+    pub refused-waiting : w.phase ≡ Phase.Waiting → g ≡ None → kept_of w o 21 ≡ paused_of t k g n w o w.phase
     unfolding paused_of
-    refused-waiting p g = rw (p, g) refl
+    refused-waiting p e = rw (p, e) refl
 
-    pub refused-stopped : (y : Reason) → w.phase ≡ Phase.Stopped y → given ≡ true → kept_of w o 21 ≡ paused_of t k given x n w o w.phase
+    pub refused-stopped : (x : ℕ) (y : Reason) → w.phase ≡ Phase.Stopped y → g ≡ Some x → kept_of w o 21 ≡ paused_of t k g n w o w.phase
     unfolding paused_of
-    refused-stopped y p g = rw (p, g) refl
+    refused-stopped x y p e = rw (p, e) refl

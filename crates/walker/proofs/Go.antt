@@ -8,7 +8,7 @@ use denote.Enum.Declared.{tag_of}
 use lib.ListN.{length, set}
 use types.Run.{OneOf, miss}
 use Rattle.machine.specs.Bytes.{count}
-use Rattle.walker.specs.Shape.{put_event, with_depth, ask_of, answer_of, operate_of, fetched_of, step_of, number_of, go_of, ended, Outcome}
+use Rattle.walker.specs.Shape.{put_event, with_depth, ask_of, answer_of, operate_of, fetched_of, step_of, number_of, ending_number, go_of, ended, Outcome}
 use Rattle.walker.specs.Steps.{Ends, took_of, turn_of, last_of}
 use Rattle.walker.specs.declared.Event.{Event}
 use Rattle.walker.specs.declared.Next.{Next}
@@ -113,7 +113,7 @@ module _ {t k a : List ℕ} {paused : Bool} {budget : ℕ} {r₀ : Registers} {r
   others (Next.Waits v y) s h = omega (arith, kept s, i.left)
 
   pub ends : (x : Next) → step_of rs t k a room paused r ≡ x → Ends (count o - 3 * e) x → last_of (took_of (record { phase = Phase.Going; at = r; returns = rs }) x) o e d ≡ go_of t k a paused budget r₀ rs₀ o₀ 0 0
-  unfolding turn_of took_of
+  unfolding turn_of took_of ending_number number_of
   ends Next.Full s h = sym (full t k a paused r rs o e d (budget - d) (omega (arith, more)) (told s)) ∙ i.same
   ends Next.Outside s h = sym (outside t k a paused r rs o e d (budget - d) (omega (arith, more)) (told s)) ∙ i.same
   ends (Next.Stop y) s h = sym (stops t k a paused r rs o e d (budget - d) y (omega (arith, more)) (told s)) ∙ i.same

@@ -7,6 +7,7 @@ use mathlib.Core.Option.{none}
 use Prim.Native.Nat.{ℕ, zero, suc, ◌+◌, ◌*◌, ◌-◌, ◌%◌, ◌<◌, ◌≤◌}
 use native.Mathlib.Omega.{arith}
 use lib.ListN.{length, take, set, length-set, length-append}
+use Rattle.std.specs.Prelude.{Option, Some, None}
 use Rattle.events.specs.Events as events
 use Rattle.events.specs.Events.{reason_number}
 use Rattle.machine.specs.Bytes.{count, words_of, table_of, bytes_of, over}
@@ -14,6 +15,7 @@ use Rattle.machine.specs.Walk as machine
 use Rattle.machine.specs.Call as calls
 use Rattle.machine.specs.Call.{whole, paused, Called, further, ends, ends_for, keeps, run, call_in, call_walk}
 use Rattle.machine.specs.Form.{events_words}
+use Rattle.machine.specs.Small.{SmallMode}
 use Rattle.walker.specs.declared.Event.{Event}
 use Rattle.walker.specs.declared.Next.{Next}
 use Rattle.walker.specs.declared.Next.TheVariants.{Full, Stop, On, Tells, Push, Waits}
@@ -186,15 +188,15 @@ module _ (t k : List ℕ) (n : ℕ) (w : Walk) (o : List ℕ) (sized : length w.
   whole_in a Waiting small-a e = refused-agrees
   whole_in a (Stopped r) small-a e = stopped-agrees r
 
-  paused-in : (g : Bool) (x : ℕ) (ph : Phase) → x < 65536 → w.phase ≡ ph
-      → Agrees o (paused_of t k g x n w o ph) (call_in (table_of t) (words_of k) (phase_of ph) (paused (handed g x)) n (count o) (walk_of w))
+  paused-in : (g : Option ℕ) (ph : Phase) → SmallMode (paused (handed g)) → w.phase ≡ ph
+      → Agrees o (paused_of t k g n w o ph) (call_in (table_of t) (words_of k) (phase_of ph) (paused (handed g)) n (count o) (walk_of w))
   unfolding paused_of call_in phase_of
-  paused-in false x Going h e = going-run [] true no_bytes e
-  paused-in true x Going h e = refused-agrees
-  paused-in false x Waiting h e = refused-agrees
-  paused-in true x Waiting h e = answered-run x h
-  paused-in false x (Stopped r) h e = stopped-agrees r
-  paused-in true x (Stopped r) h e = refused-agrees
+  paused-in None Going h e = going-run [] true no_bytes e
+  paused-in (Some x) Going h e = refused-agrees
+  paused-in None Waiting h e = refused-agrees
+  paused-in (Some x) Waiting h e = answered-run x h
+  paused-in None (Stopped r) h e = stopped-agrees r
+  paused-in (Some x) (Stopped r) h e = refused-agrees
 
   -- a whole call
   pub whole-call : (a : List ℕ) → Bytes a → Agrees o (whole_of t k a n w o w.phase) (call_walk (table_of t) (words_of k) (whole (words_of a)) n (count o) (walk_of w))
@@ -202,10 +204,10 @@ module _ (t k : List ℕ) (n : ℕ) (w : Walk) (o : List ℕ) (sized : length w.
   whole-call a small-a = whole_in a w.phase small-a refl
 
   -- a paused call, with an answer or none
-  pub paused-call : (g : Bool) (x : ℕ) → x < 65536
-      → Agrees o (paused_of t k g x n w o w.phase) (call_walk (table_of t) (words_of k) (paused (handed g x)) n (count o) (walk_of w))
+  pub paused-call : (g : Option ℕ) → SmallMode (paused (handed g))
+      → Agrees o (paused_of t k g n w o w.phase) (call_walk (table_of t) (words_of k) (paused (handed g)) n (count o) (walk_of w))
   unfolding call_walk walk_of walk_in
-  paused-call g x h = paused-in g x w.phase h refl
+  paused-call g h = paused-in g w.phase h refl
 
 -- A refused call leaves the very struct and the buffer as they were
 
@@ -215,16 +217,16 @@ module _ (t k : List ℕ) (n : ℕ) (w : Walk) (o : List ℕ) where
   whole-refused a e = rw e
 
   -- a waiting walk, and no answer
-  pub unanswered-refused : (x : ℕ) → w.phase ≡ Waiting → paused_of t k false x n w o w.phase ≡ refused_of w o
+  pub unanswered-refused : w.phase ≡ Waiting → paused_of t k None n w o w.phase ≡ refused_of w o
   unfolding paused_of
-  unanswered-refused x e = rw e
+  unanswered-refused e = rw e
 
-  answered-in : (x : ℕ) (ph : Phase) → (ph ≡ Waiting → ⊥) → paused_of t k true x n w o ph ≡ refused_of w o
+  answered-in : (x : ℕ) (ph : Phase) → (ph ≡ Waiting → ⊥) → paused_of t k (Some x) n w o ph ≡ refused_of w o
   unfolding paused_of
   answered-in x Going h = refl
   answered-in x Waiting h = absurd (h refl)
   answered-in x (Stopped r) h = refl
 
   -- an answer, and no waiting walk
-  pub answered-refused : (x : ℕ) → (w.phase ≡ Waiting → ⊥) → paused_of t k true x n w o w.phase ≡ refused_of w o
+  pub answered-refused : (x : ℕ) → (w.phase ≡ Waiting → ⊥) → paused_of t k (Some x) n w o w.phase ≡ refused_of w o
   answered-refused x h = answered-in x w.phase h

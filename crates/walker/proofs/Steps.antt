@@ -12,8 +12,9 @@ use types.Run.{OneOf, miss}
 use Rattle.std.specs.Prelude.{if◌then◌else◌}
 use Rattle.machine.specs.Bytes.{count, word_at}
 use Rattle.machine.specs.Lengths.{lengths, length_of}
-use Rattle.walker.specs.Shape.{size, put_event, number_of, any_of, return_of, act_of, fetched_of, with_depth, first64, answered_one, step_of, go_of, whole_of, paused_of, Outcome}
+use Rattle.walker.specs.Shape.{size, put_event, ending_number, number_of, any_of, return_of, act_of, fetched_of, with_depth, first64, answered_one, step_of, go_of, whole_of, paused_of, Outcome}
 use Rattle.walker.specs.Steps.{says, Holds, Ends, took_of, number_at, next_of, walk_step_of, turn_of, last_of, steps_of, Repeats}
+use Rattle.walker.specs.declared.Ending.{Ending}
 use Rattle.walker.specs.declared.Next.{Next}
 use Rattle.walker.specs.declared.Phase.{Phase}
 use Rattle.walker.specs.declared.Reason.{Reason}
@@ -49,7 +50,7 @@ module _ (t k a : List ℕ) (paused : Bool) where
         ap (λ (q : Registers). turn_of (steps_of t k a paused n) (took_of (going q rs) (step_of rs t k a (count o - 3 * e) paused q)) o e d) f ∙ ap then-x s
 
     by-step : r.depth ≤ 64 → (x : Next) → stepped t k a paused r rs o e d ≡ x → Keeps (count o - 3 * e) r x → go_of t k a paused (suc n) r rs o e d ≡ then-x x
-    unfolding then-x turn_of took_of
+    unfolding then-x turn_of took_of ending_number number_of
     by-step deep Next.Full s h = full t k a paused r rs o e d (suc n) (omega arith) s
     by-step deep Next.Outside s h = outside t k a paused r rs o e d (suc n) (omega arith) s
     by-step deep (Next.Stop x) s h = stops t k a paused r rs o e d (suc n) x (omega arith) s
@@ -72,7 +73,7 @@ pub repeats : (t k : List ℕ) (n : ℕ) (w : Walk) (o : List ℕ) → Repeats t
 unfolding whole_of paused_of
 repeats t k n w o = record {
   whole = λ a p. rw p (steps-go t k a false n (first64 w.at) w.returns o 0 0 (read-64 w.at.depth));
-  paused = λ x p. rw p (steps-go t k [] true n (first64 w.at) w.returns o 0 0 (read-64 w.at.depth));
+  paused = λ p. rw p (steps-go t k [] true n (first64 w.at) w.returns o 0 0 (read-64 w.at.depth));
   answer = λ x p. rw p (steps-go t k [] true n (answered_one (first64 w.at) x) w.returns o 0 0 (read-64 w.at.depth));
 }
 
@@ -139,10 +140,10 @@ module _ (t k a : List ℕ) (room : ℕ) (q : Bool) (w : Walk) where
   unfolding walk_step_of
   step-goes v p at rs g = ap (next_of t k a room q) (λ i. record { phase = p i; at = at i; returns = rs i }) ∙ sym (ap (walk_step_of t k a room q w) g)
 
-  pub step_waits : w.phase ≡ Phase.Waiting → says w (Said.Undone 21) ≡ walk_step_of t k a room q w w.phase
+  pub step_waits : w.phase ≡ Phase.Waiting → says w (Said.Undone Ending.Refused) ≡ walk_step_of t k a room q w w.phase
   unfolding walk_step_of
   step_waits g = sym (ap (walk_step_of t k a room q w) g)
 
-  pub step-stops : (x : Reason) (m : ℕ) → w.phase ≡ Phase.Stopped x → m ≡ number_of x → says w (Said.Undone m) ≡ walk_step_of t k a room q w w.phase
+  pub step-stops : (x : Reason) → w.phase ≡ Phase.Stopped x → says w (Said.Undone (Ending.Stopped x)) ≡ walk_step_of t k a room q w w.phase
   unfolding walk_step_of
-  step-stops x m g e = ap (λ (n : ℕ). says w (Said.Undone n)) e ∙ sym (ap (walk_step_of t k a room q w) g)
+  step-stops x g = sym (ap (walk_step_of t k a room q w) g)

@@ -1,6 +1,7 @@
 -- What it means that the code's definitions (Shape) give what the machine's give: the statement of `whole-call` and `paused-call` (proofs/Link.antt).
-use Rattle.std.specs.Prelude.{Bool, true, false, List, ◌≡◌, ℕ, ◌<◌, length, get_or}
-use Rattle.std.proofs.Math.Option.{Option, none, some}
+use Rattle.std.specs.Prelude.{List, ◌≡◌, ℕ, ◌<◌, length, get_or, Option, Some, None}
+use Rattle.std.proofs.Math.Option as machine
+use Rattle.std.proofs.Math.Option.{none, some}
 use Rattle.machine.specs.Bytes.{bytes_of, over}
 use Rattle.machine.specs.Call.{Called}
 use Rattle.machine.specs.Form.{events_words}
@@ -12,9 +13,9 @@ abbrev pub Bytes : List ℕ → Type 0
 Bytes s = (i : ℕ) → get_or s i 0 < 256
 
 -- the answer of a paused call, or none
-abbrev pub handed : Bool → ℕ → Option ℕ
-handed false x = none
-handed true x = some x
+abbrev pub handed : Option ℕ → machine.Option ℕ
+handed None = none
+handed (Some x) = some x
 
 -- what a call of the code's definitions gives is what the machine's gives, with s the event buffer before it
 pub record Agrees (s : List ℕ) (x : Outcome) (c : Called) : Type 0 where

@@ -1,7 +1,8 @@
 -- What the walker's functions compute, in the code's own order, over bytes. proofs/Link.antt shows that it is what the machine's definitions say.
-use Rattle.std.specs.Prelude.{Bool, true, false, List, [], ℕ, zero, suc, ◌+◌, ◌*◌, ◌-◌, ◌/◌, ◌%◌, min, eqb, ltb, leb, get_or, set, if◌then◌else◌}
+use Rattle.std.specs.Prelude.{Bool, true, false, List, [], ℕ, zero, suc, ◌+◌, ◌*◌, ◌-◌, ◌/◌, ◌%◌, min, eqb, ltb, leb, get_or, set, if◌then◌else◌, Option, Some, None}
 use Rattle.machine.specs.Bytes.{count, word_at}
 use Rattle.machine.specs.Lengths.{length_of}
+use Rattle.walker.specs.declared.Ending.{Ending}
 use Rattle.walker.specs.declared.Event.{Event}
 use Rattle.walker.specs.declared.Event.TheVariants.{Output, Repair, Plain, With}
 use Rattle.walker.specs.declared.Next.{Next}
@@ -250,6 +251,14 @@ number_of Deep = 33
 number_of Unanswered = 34
 number_of Reason.Outside = 37
 
+-- the number of a call that ends so
+unfoldable pub ending_number : Ending → ℕ
+ending_number (Ending.Stopped x) = number_of x
+ending_number Ending.Refused = 21
+ending_number Ending.Waits = 22
+ending_number Ending.Full = 35
+ending_number Ending.Spent = 36
+
 -- up to n steps of a walk that goes on; e events are written to o, d steps are done
 unfoldable pub go_of : List ℕ → List ℕ → List ℕ → Bool → ℕ → Registers → List ℕ → List ℕ → ℕ → ℕ → Outcome
 go_of t k a paused zero r rs o e d = ended Going r rs o e d 36
@@ -282,10 +291,10 @@ whole_of t k a n w o Waiting = refused_of w o
 whole_of t k a n w o (Stopped r) = kept_of w o (number_of r)
 
 -- a paused call with an answer x, or none
-unfoldable pub paused_of : List ℕ → List ℕ → Bool → ℕ → ℕ → Walk → List ℕ → Phase → Outcome
-paused_of t k false x n w o Going = go_of t k [] true n (first64 w.at) w.returns o 0 0
-paused_of t k true x n w o Going = refused_of w o
-paused_of t k false x n w o Waiting = refused_of w o
-paused_of t k true x n w o Waiting = go_of t k [] true n (answered_one (first64 w.at) x) w.returns o 0 0
-paused_of t k false x n w o (Stopped r) = kept_of w o (number_of r)
-paused_of t k true x n w o (Stopped r) = refused_of w o
+unfoldable pub paused_of : List ℕ → List ℕ → Option ℕ → ℕ → Walk → List ℕ → Phase → Outcome
+paused_of t k None n w o Going = go_of t k [] true n (first64 w.at) w.returns o 0 0
+paused_of t k (Some x) n w o Going = refused_of w o
+paused_of t k None n w o Waiting = refused_of w o
+paused_of t k (Some x) n w o Waiting = go_of t k [] true n (answered_one (first64 w.at) x) w.returns o 0 0
+paused_of t k None n w o (Stopped r) = kept_of w o (number_of r)
+paused_of t k (Some x) n w o (Stopped r) = refused_of w o

@@ -1,8 +1,9 @@
 -- "Each step takes the walk and gives the walk back": the walk's methods, one step, and steps repeated. A call's loop does the same (`Repeats`).
-use Rattle.std.specs.Prelude.{Bool, true, false, List, [], ◌≡◌, ℕ, zero, suc, ◌+◌, ◌*◌, ◌-◌, ◌<◌, ◌≤◌, eqb, leb, get_or, if◌then◌else◌}
+use Rattle.std.specs.Prelude.{Bool, true, false, List, [], ◌≡◌, ℕ, zero, suc, ◌+◌, ◌*◌, ◌-◌, ◌<◌, ◌≤◌, eqb, leb, get_or, if◌then◌else◌, Some, None}
 use Rattle.machine.specs.Bytes.{count, word_at}
-use Rattle.walker.specs.Shape.{size, put_event, read_one, answered_one, popped_to, pushed, first64, number_of, step_of, Outcome, whole_of, paused_of}
+use Rattle.walker.specs.Shape.{size, put_event, read_one, answered_one, popped_to, pushed, first64, ending_number, number_of, step_of, Outcome, whole_of, paused_of}
 use Rattle.walker.specs.declared.Called.{Called}
+use Rattle.walker.specs.declared.Ending.{Ending}
 use Rattle.walker.specs.declared.Next.{Next}
 use Rattle.walker.specs.declared.Phase.{Phase}
 use Rattle.walker.specs.declared.Phase.TheVariants.{Going, Waiting, Stopped}
@@ -53,9 +54,9 @@ Holds (Next.Waits r e) = Unit {0}
 
 -- what an instruction does to the walk, and what the call is told of it; 35 and 37 "do nothing and count nothing"
 unfoldable pub took_of : Walk → Next → Stepped
-took_of w Next.Full = says w (Said.Undone 35)
-took_of w Next.Outside = says (in_phase w (Stopped Reason.Outside)) (Said.Undone 37)
-took_of w (Next.Stop x) = says (in_phase w (Stopped x)) (Said.Stops (number_of x))
+took_of w Next.Full = says w (Said.Undone Ending.Full)
+took_of w Next.Outside = says (in_phase w (Stopped Reason.Outside)) (Said.Undone (Ending.Stopped Reason.Outside))
+took_of w (Next.Stop x) = says (in_phase w (Stopped x)) (Said.Stops x)
 took_of w (Next.On r) = says (with_at w r) Said.On
 took_of w (Next.Tells r e) = says (with_at w r) (Said.Tells e)
 took_of w (Next.Push r l) = says (pushed (with_at w r) l) Said.On
@@ -72,8 +73,8 @@ next_of t k a room paused w = took_of w (step_of w.returns t k a room paused w.a
 -- a step of any walk: one that waits or has stopped stays as it is
 unfoldable pub walk_step_of : List ℕ → List ℕ → List ℕ → ℕ → Bool → Walk → Phase → Stepped
 walk_step_of t k a room paused w Going = next_of t k a room paused (as_read w)
-walk_step_of t k a room paused w Waiting = says w (Said.Undone 21)
-walk_step_of t k a room paused w (Stopped x) = says w (Said.Undone (number_of x))
+walk_step_of t k a room paused w Waiting = says w (Said.Undone Ending.Refused)
+walk_step_of t k a room paused w (Stopped x) = says w (Said.Undone (Ending.Stopped x))
 
 -- Steps repeated
 
@@ -81,8 +82,8 @@ abbrev pub outcome : Walk → List ℕ → ℕ → ℕ → ℕ → Outcome
 outcome w o events steps number = record { walk = w; events = events; steps = steps; number = number; out = o }
 
 -- what a call's code gives; the event buffer's bytes stand with the buffer
-abbrev pub called : Walk → ℕ → ℕ → ℕ → Called
-called w events steps number = record { walk = w; events = events; steps = steps; number = number }
+abbrev pub called : Walk → ℕ → ℕ → Ending → Called
+called w events steps ending = record { walk = w; events = events; steps = steps; ending = ending }
 
 -- after a step: further, or the call's end; e events are written to o, d steps are done
 unfoldable pub turn_of : (Walk → List ℕ → ℕ → ℕ → Outcome) → Stepped → List ℕ → ℕ → ℕ → Outcome
@@ -90,8 +91,8 @@ turn_of further s o e d =
     elim s.said [
       | Said.On ↦ further s.walk o e (d + 1)
       | Said.Tells x ↦ further s.walk (put_event o (3 * e) x) (e + 1) (d + 1)
-      | Said.Undone m ↦ outcome s.walk o e d m
-      | Said.Stops m ↦ outcome s.walk o e (d + 1) m
+      | Said.Undone m ↦ outcome s.walk o e d (ending_number m)
+      | Said.Stops x ↦ outcome s.walk o e (d + 1) (number_of x)
       | Said.Hands x ↦ outcome s.walk (put_event o (3 * e) x) (e + 1) (d + 1) 22
     ]
 
@@ -117,5 +118,5 @@ steps_of t k a paused (suc n) w o e d = turn_of (steps_of t k a paused n) (walk_
 -- a call of a walk that goes on, or that is given the answer it waits for, is its steps repeated
 pub record Repeats (t k : List ℕ) (n : ℕ) (w : Walk) (o : List ℕ) : Type 0 where
   pub whole : (a : List ℕ) → w.phase ≡ Going → whole_of t k a n w o w.phase ≡ steps_of t k a false n (as_read w) o 0 0
-  pub paused : (x : ℕ) → w.phase ≡ Going → paused_of t k false x n w o w.phase ≡ steps_of t k [] true n (as_read w) o 0 0
-  pub answer : (x : ℕ) → w.phase ≡ Waiting → paused_of t k true x n w o w.phase ≡ steps_of t k [] true n (answered (as_read w) x) o 0 0
+  pub paused : w.phase ≡ Going → paused_of t k None n w o w.phase ≡ steps_of t k [] true n (as_read w) o 0 0
+  pub answer : (x : ℕ) → w.phase ≡ Waiting → paused_of t k (Some x) n w o w.phase ≡ steps_of t k [] true n (answered (as_read w) x) o 0 0

@@ -1,29 +1,27 @@
 // The walker: whole and paused walks over a table of 16-bit words.
 #![tactic(auto)]
 
-ghost use Rattle.std.specs.Prelude.{◌≡◌, ◌+◌, ◌*◌, ◌-◌, ◌%◌, ◌<◌, ◌≤◌, ◌^◌, set};
+ghost use Rattle.std.specs.Prelude.{◌≡◌, ◌+◌, ◌*◌, ◌-◌, ◌%◌, ◌<◌, ◌≤◌, ◌^◌, set, IfSome, IfNone};
 ghost use Rattle.machine.specs.Bytes.{count, word_at};
 ghost use Rattle.machine.specs.Lengths.{lengths, length_of};
-ghost use Rattle.walker.specs.Shape.{size, set_word, put_event, swapped, number_of};
+ghost use Rattle.walker.specs.Shape.{size, set_word, put_event, swapped, number_of, ending_number};
 ghost use Rattle.walker.specs.Shape.{fresh_at, moved, read_one, spent_one, answered_one, with_result, with_parameter, popped_to, with_depth, first64};
-ghost use Rattle.walker.specs.Shape.{otherwise_of, label_of, labelled_of, choice_of, default_of, take_other};
+ghost use Rattle.walker.specs.Shape.{otherwise_of, label_of, labelled_of, table_at, labels_at, inside_table, choice_of, default_of, take_other};
 ghost use Rattle.walker.specs.Shape.{forward_of, back_of, mend_of, input_of, any_of, tell_of, input_choice_of, call_of, back_to, return_of, answer_of};
 ghost use Rattle.walker.specs.Shape.{in_full, operate_of, fetched_of, step_of, go_of, whole_of, paused_of, pushed};
 ghost use Rattle.walker.specs.Steps.{with_at, in_phase, token_read, returned, answered, says, Holds, took_of, number_at, next_of, walk_step_of, outcome, called, Ends, last_of};
+ghost use Rattle.walker.specs.declared.Ending.{Ending};
 ghost use Rattle.walker.specs.declared.Phase.TheVariants.{Stopped};
 
-use base::{PENDING, byte_word, low_word, wide};
+use base::{PENDING, low_word};
 use machine::{
     ASK, ASK_WITH, CALL, CHOICE, EMIT, END_CHOICE, ERROR, EVENT_WORDS, INPUT, INPUT_ANY,
     INPUT_CHOICE, JUMP_BACK, JUMP_FORWARD, LAST_PLAIN, PAST_OPERATIONS, RETURN, SET_PARAMETER,
     SET_RESULT, UPDATE, UPDATE_WITH,
 };
 
-// The greatest count of answers used.
-const MOST_USED: u64 = 18446744073709551615;
-
 // Why a walk has stopped for good.
-#[derive(Clone, Copy)]
+#[derive(Clone, Copy, Debug, PartialEq, Eq)]
 pub enum Reason {
     Finished,
     Differs,
@@ -34,8 +32,54 @@ pub enum Reason {
     Outside,
 }
 
+// The number of a call that leaves a walk stopped.
+impl From<Reason> for u16 {
+    ghost from_gives = { λ why n. n ≡ number_of why };
+
+    fn from(why: Reason) -> u16 {
+        match why {
+            Reason::Finished => 0,
+            Reason::Differs => base::DIFFERS,
+            Reason::Missing => base::MISSING,
+            Reason::Unlabelled => base::UNLABELLED,
+            Reason::Deep => base::DEEP,
+            Reason::Unanswered => base::UNANSWERED,
+            Reason::Outside => base::OUTSIDE,
+        }
+    }
+}
+
+// How a call ends.
+#[derive(Clone, Copy, Debug, PartialEq, Eq)]
+pub enum Ending {
+    Stopped(Reason),
+    // the walk cannot be called so
+    Refused,
+    // for an operation's answer
+    Waits,
+    // no room for an event
+    Full,
+    // the budget is spent
+    Spent,
+}
+
+// The call's number: include/sst.h.
+impl From<Ending> for u16 {
+    ghost from_gives = { λ ending n. n ≡ ending_number ending };
+
+    fn from(ending: Ending) -> u16 {
+        match ending {
+            Ending::Stopped(why) => u16::from(why),
+            Ending::Refused => base::REFUSED,
+            Ending::Waits => base::WAITS,
+            Ending::Full => base::FULL,
+            Ending::Spent => base::SPENT,
+        }
+    }
+}
+
 // A walk is going on, waits for an operation's answer, or has stopped.
-#[derive(Clone, Copy)]
+#[derive(Clone, Copy, Debug, PartialEq, Eq)]
 pub enum Phase {
     Going,
     Waiting,
@@ -43,7 +87,7 @@ pub enum Phase {
 }
 
 // An event before its three words are written: an output token, an error, a repaired token, an operation, an operation with its parameter.
-#[derive(Clone, Copy)]
+#[derive(Clone, Copy, Debug, PartialEq, Eq)]
 pub enum Event {
     Output(u16),
     Error(u16),
@@ -53,7 +97,7 @@ pub enum Event {
 }
 
 // The walk but for its phase and its return locations: what most instructions change. Kept apart so that a step does not copy the stack.
-#[derive(Clone, Copy)]
+#[derive(Clone, Copy, Debug, PartialEq, Eq)]
 pub struct Registers {
     pub location: usize,
     // return locations held; more than 64 are read as the first 64
@@ -68,7 +112,7 @@ pub struct Registers {
     pub allowance: u64,
 }
 
-#[derive(Clone, Copy)]
+#[derive(Clone, Copy, Debug, PartialEq, Eq)]
 pub struct Walk {
     pub phase: Phase,
     pub at: Registers,
@@ -77,7 +121,7 @@ pub struct Walk {
 }
 
 // What one instruction does.
-#[derive(Clone, Copy)]
+#[derive(Clone, Copy, Debug, PartialEq, Eq)]
 pub enum Next {
     // 35: no room for an event
     Full,
@@ -94,42 +138,49 @@ pub enum Next {
 }
 
 // What a step tells its call.
-#[derive(Clone, Copy)]
+#[derive(Clone, Copy, Debug, PartialEq, Eq)]
 pub enum Said {
     // the walk goes on
     On,
     // it goes on, and the event is to be written
     Tells(Event),
-    // nothing was done; the call ends with this number
-    Undone(u16),
-    // the walk has stopped; the call ends with this number
-    Stops(u16),
+    // nothing was done; the call ends so
+    Undone(Ending),
+    // the walk has stopped
+    Stops(Reason),
     // the operation is handed out, its event to be written
     Hands(Event),
 }
 
 // What a step gives: the walk back, and what its call is told.
-#[derive(Clone, Copy)]
+#[derive(Clone, Copy, Debug, PartialEq, Eq)]
 pub struct Stepped {
     pub walk: Walk,
     pub said: Said,
 }
 
 // Where a choice goes.
-#[derive(Clone, Copy)]
+#[derive(Clone, Copy, Debug, PartialEq, Eq)]
 pub enum Target {
     Label(usize),
     Otherwise(usize),
     Outside,
 }
 
-// What a call gives: the walk, the events written, the steps done, the call's number.
-#[derive(Clone, Copy)]
+// The labels of a choice, which stand at every second word: the index of the first, and how many.
+#[derive(Clone, Copy, Debug, PartialEq, Eq)]
+struct Labels {
+    first: usize,
+    count: usize,
+}
+
+// What a call gives: the walk, the events written, the steps done, how it ended.
+#[derive(Clone, Copy, Debug, PartialEq, Eq)]
 pub struct Called {
     pub walk: Walk,
     pub events: u64,
     pub steps: u64,
-    pub number: u16,
+    pub ending: Ending,
 }
 
 // Words of a byte buffer
@@ -138,12 +189,7 @@ pub struct Called {
 fn table_words(t: &[u8]) -> usize
     ensures { result ≡ size t.now }
 {
-    let n = machine::count_words(t);
-    if n < base::TABLE_WORDS {
-        n
-    } else {
-        base::TABLE_WORDS
-    }
+    machine::count_words(t).min(base::TABLE_WORDS)
 }
 
 // The word at index i, from 0: `machine::word` without its test.
@@ -151,7 +197,7 @@ fn word(s: &[u8], i: usize) -> u16
     requires { i < count s.now }
     ensures { result ≡ word_at s.now i }
 {
-    byte_word(s[2 * i]) * 256 + byte_word(s[2 * i + 1])
+    u16::from_be_bytes([s[2 * i], s[2 * i + 1]])
 }
 
 // `buffers::put_word` writes the same. This one stays: the loop that it is put into is timed, and uses `machine` alone.
@@ -159,8 +205,9 @@ fn put_word(out: &mut [u8], i: usize, x: u16)
     requires { i < count out.old }
     ensures { out.new ≡ set_word out.old i x }
 {
-    out[2 * i] = (x / 256) as u8;
-    out[2 * i + 1] = (x % 256) as u8;
+    let [high, low] = x.to_be_bytes();
+    out[2 * i] = high;
+    out[2 * i + 1] = low;
 }
 
 fn put_three(out: &mut [u8], i: usize, a: u16, b: u16, d: u16)
@@ -178,28 +225,12 @@ pub fn put_event(out: &mut [u8], i: usize, e: Event)
     ensures { out.new ≡ put_event out.old i e }
 {
     match e {
-        Event::Output(t) => {
-            put_three(out, i, machine::OUTPUT_EVENT, t, 0);
-        }
-        Event::Error(n) => {
-            put_three(out, i, machine::ERROR_EVENT, n, 0);
-        }
-        Event::Repair(t) => {
-            put_three(out, i, machine::REPAIR_EVENT, t, 0);
-        }
-        Event::Plain(op) => {
-            put_three(out, i, machine::OPERATION_EVENT, op, 0);
-        }
-        Event::With(op, v) => {
-            put_three(out, i, machine::OPERATION_EVENT, op, v);
-        }
+        Event::Output(t) => put_three(out, i, machine::OUTPUT_EVENT, t, 0),
+        Event::Error(n) => put_three(out, i, machine::ERROR_EVENT, n, 0),
+        Event::Repair(t) => put_three(out, i, machine::REPAIR_EVENT, t, 0),
+        Event::Plain(op) => put_three(out, i, machine::OPERATION_EVENT, op, 0),
+        Event::With(op, v) => put_three(out, i, machine::OPERATION_EVENT, op, v),
     }
-}
-
-fn swap_bytes(x: u16) -> u16
-    ensures { result ≡ swapped x }
-{
-    x % 256 * 256 + x / 256
 }
 
 // The word at index i with its bytes exchanged: to the processor one load, where `word` is a load and an exchange.
@@ -207,7 +238,7 @@ fn swapped_word(s: &[u8], i: usize) -> u16
     requires { i < count s.now }
     ensures { result ≡ swapped (word_at s.now i) }
 {
-    byte_word(s[2 * i]) + byte_word(s[2 * i + 1]) * 256
+    u16::from_le_bytes([s[2 * i], s[2 * i + 1]])
 }
 
 // The words that instruction 1 to 13 takes. The constant table is lent, so that a fetch does not make it anew.
@@ -215,22 +246,7 @@ fn length_of(known: &[usize; LAST_PLAIN], ins: u16) -> usize
     requires { (known.now ≡ lengths) × (0 < ins) × (ins < 14) }
     ensures { result ≡ length_of ins }
 {
-    known[ins as usize - 1]
-}
-
-// The number of a call that leaves a walk stopped.
-pub fn number_of(why: Reason) -> u16
-    ensures { result ≡ number_of why }
-{
-    match why {
-        Reason::Finished => 0,
-        Reason::Differs => base::DIFFERS,
-        Reason::Missing => base::MISSING,
-        Reason::Unlabelled => base::UNLABELLED,
-        Reason::Deep => base::DEEP,
-        Reason::Unanswered => base::UNANSWERED,
-        Reason::Outside => base::OUTSIDE,
-    }
+    known[usize::from(ins) - 1]
 }
 
 // The registers of a fresh walk.
@@ -244,89 +260,103 @@ pub fn fresh(allowance: u16) -> Registers
         parameter: 0,
         read: 0,
         used: 0,
-        allowance: allowance as u64,
+        allowance: u64::from(allowance),
     }
 }
 
 // One thing changed
 
 impl Registers {
-    fn moved(mut self, to: usize) -> Registers
+    fn moved(self, to: usize) -> Registers
         ensures { result ≡ moved self to }
     {
-        self.location = to;
-        self
+        Registers {
+            location: to,
+            ..self
+        }
     }
 
-    fn read_token(mut self) -> Registers
+    fn read_token(self) -> Registers
         requires { self.read + 1 < 2 ^ 64 }
         ensures { result ≡ read_one self }
     {
-        self.read += 1;
-        self
+        Registers {
+            read: self.read + 1,
+            ..self
+        }
     }
 
     // One repair less is left.
-    fn spend(mut self) -> Registers
+    fn spend(self) -> Registers
         requires { 0 < self.allowance }
         ensures { result ≡ spent_one self }
     {
-        self.allowance -= 1;
-        self
+        Registers {
+            allowance: self.allowance - 1,
+            ..self
+        }
     }
 
     // Takes an answer: the result, and one more used, up to the greatest count.
-    fn give_answer(mut self, x: u16) -> Registers
+    fn give_answer(self, x: u16) -> Registers
         ensures { result ≡ answered_one self x }
     {
-        self.result = x as u64;
-        if self.used < MOST_USED {
-            self.used += 1;
+        Registers {
+            result: u64::from(x),
+            used: self.used.saturating_add(1),
+            ..self
         }
-        self
     }
 
-    fn with_result(mut self, x: u16) -> Registers
+    fn with_result(self, x: u16) -> Registers
         ensures { result ≡ with_result self x }
     {
-        self.result = x as u64;
-        self
+        Registers {
+            result: u64::from(x),
+            ..self
+        }
     }
 
-    fn with_parameter(mut self, x: u16) -> Registers
+    fn with_parameter(self, x: u16) -> Registers
         ensures { result ≡ with_parameter self x }
     {
-        self.parameter = x as u64;
-        self
+        Registers {
+            parameter: u64::from(x),
+            ..self
+        }
     }
 
     // Goes back behind a call.
-    fn popped_to(mut self, to: usize) -> Registers
+    fn popped_to(self, to: usize) -> Registers
         requires { 0 < self.depth }
         ensures { result ≡ popped_to self to }
     {
-        self.depth -= 1;
-        self.location = to;
-        self
+        Registers {
+            location: to,
+            depth: self.depth - 1,
+            ..self
+        }
     }
 
     // One more return location is held.
-    pub fn deeper(mut self) -> Registers
+    pub fn deeper(self) -> Registers
         requires { self.depth < 64 }
         ensures { result ≡ with_depth self (self.depth + 1) }
     {
-        self.depth += 1;
-        self
+        Registers {
+            depth: self.depth + 1,
+            ..self
+        }
     }
 
     // More than 64 return locations are read as the first 64.
-    fn clipped(mut self) -> Registers
+    fn clipped(self) -> Registers
         ensures { result ≡ first64 self }
     {
-        if PENDING < self.depth {
-            self.depth = PENDING;
+        Registers {
+            depth: self.depth.min(PENDING),
+            ..self
         }
-        self
     }
 }
 
@@ -350,7 +380,7 @@ fn label(t: &[u8], at: usize) -> Target
     ensures { result ≡ label_of t.now at }
 {
     let from = at + 2;
-    let d = word(t, at + 1) as usize;
+    let d = usize::from(word(t, at + 1));
     if d < from {
         Target::Label(from - d)
     } else {
@@ -358,14 +388,15 @@ fn label(t: &[u8], at: usize) -> Target
     }
 }
 
-// Where a choice goes with x: its labels stand at every second word from index b. They are compared with their bytes exchanged, which spares one each.
-fn labelled(t: &[u8], n: usize, b: usize, labels: usize, x: u16) -> Target
-    requires { (n ≡ size t.now) × (b + 2 * labels ≤ n) }
-    ensures { result ≡ labelled_of t.now b labels x }
+// Where a choice goes with x, by its labels. They are compared with their bytes exchanged, which spares one each.
+// The place is counted by hand: this loop is timed, and a search by the label's number was slower (docs/DECISIONS.md, "Speed of the walker").
+fn labelled(t: &[u8], n: usize, labels: Labels, x: u16) -> Target
+    requires { (n ≡ size t.now) × (labels.first + 2 * labels.count ≤ n) }
+    ensures { result ≡ labelled_of t.now labels.first labels.count x }
 {
-    let y = swap_bytes(x);
-    let end = b + 2 * labels;
-    let mut at = b;
+    let y = x.swap_bytes();
+    let end = labels.first + 2 * labels.count;
+    let mut at = labels.first;
     while at < end {
         if swapped_word(t, at) == y {
             return label(t, at);
@@ -375,20 +406,32 @@ fn labelled(t: &[u8], n: usize, b: usize, labels: usize, x: u16) -> Target
     otherwise(n, end)
 }
 
+// The labels of the choice at loc, if the table has all of them.
+fn labels_of(t: &[u8], n: usize, loc: usize) -> Option<Labels>
+    requires { (n ≡ size t.now) × (loc < n) }
+    ensures whole { IfSome result (λ x. (x.first ≡ table_at t.now loc) × ((x.count ≡ labels_at t.now loc) × (x.first + 2 * x.count ≤ n))) }
+    ensures outside { IfNone result ((g : Target) → Target.Outside ≡ inside_table t.now loc g) }
+{
+    let first = loc + 1 + usize::from(word(t, loc));
+    if n < first {
+        return None;
+    }
+    let count = usize::from(word(t, first - 1));
+    if n < first + 2 * count {
+        return None;
+    }
+    Some(Labels { first, count })
+}
+
 // Where the choice at loc goes with x.
 fn choice_target(t: &[u8], n: usize, loc: usize, x: u16) -> Target
     requires { (n ≡ size t.now) × (loc < n) }
     ensures { result ≡ choice_of t.now loc x }
 {
-    let b = loc + 1 + word(t, loc) as usize;
-    if n < b {
-        return Target::Outside;
+    match labels_of(t, n, loc) {
+        Some(labels) => labelled(t, n, labels, x),
+        None => Target::Outside,
     }
-    let labels = word(t, b - 1) as usize;
-    if n < b + 2 * labels {
-        return Target::Outside;
-    }
-    labelled(t, n, b, labels, x)
 }
 
 // Where the choice at loc goes with nothing to look for.
@@ -396,15 +439,10 @@ fn default_target(t: &[u8], n: usize, loc: usize) -> Target
     requires { (n ≡ size t.now) × (loc < n) }
     ensures { result ≡ default_of t.now loc }
 {
-    let b = loc + 1 + word(t, loc) as usize;
-    if n < b {
-        return Target::Outside;
+    match labels_of(t, n, loc) {
+        Some(labels) => otherwise(n, labels.first + 2 * labels.count),
+        None => Target::Outside,
     }
-    let labels = word(t, b - 1) as usize;
-    if n < b + 2 * labels {
-        return Target::Outside;
-    }
-    otherwise(n, b + 2 * labels)
 }
 
 // Instructions
@@ -421,7 +459,7 @@ impl Registers {
         if n < loc + len - 1 {
             return Next::Outside;
         }
-        let to = loc + 1 + word(t, loc) as usize;
+        let to = loc + 1 + usize::from(word(t, loc));
         if to <= n {
             Next::On(self.moved(to))
         } else {
@@ -437,7 +475,7 @@ impl Registers {
         if n < loc + len - 1 {
             return Next::Outside;
         }
-        let d = word(t, loc) as usize;
+        let d = usize::from(word(t, loc));
         if d <= loc {
             Next::On(self.moved(loc + 1 - d))
         } else {
@@ -468,12 +506,8 @@ impl Registers {
             return Next::Outside;
         }
         let k = self.read as usize;
-        if k < machine::count_words(tokens) {
-            if word(tokens, k) == word(t, loc) {
-                Next::On(self.moved(loc + len).read_token())
-            } else {
-                self.mend(t, len, room)
-            }
+        if k < machine::count_words(tokens) && word(tokens, k) == word(t, loc) {
+            Next::On(self.moved(loc + len).read_token())
         } else {
             self.mend(t, len, room)
         }
@@ -555,8 +589,7 @@ impl Registers {
         ensures { result ≡ take_other self g }
     {
         match g {
-            Target::Label(to) => Next::On(self.moved(to)),
-            Target::Otherwise(to) => Next::On(self.moved(to)),
+            Target::Label(to) | Target::Otherwise(to) => Next::On(self.moved(to)),
             Target::Outside => Next::Outside,
         }
     }
@@ -602,18 +635,14 @@ impl Registers {
         if n < loc + len - 1 {
             return Next::Outside;
         }
-        let to = word(t, loc) as usize;
-        if to == 0 {
+        let to = usize::from(word(t, loc));
+        if to == 0 || n < to {
             return Next::Outside;
         }
-        if to <= n {
-            if self.depth < PENDING {
-                Next::Push(self.moved(to), (loc + len) as u16)
-            } else {
-                Next::Stop(Reason::Deep)
-            }
+        if self.depth < PENDING {
+            Next::Push(self.moved(to), (loc + len) as u16)
         } else {
-            Next::Outside
+            Next::Stop(Reason::Deep)
         }
     }
 
@@ -621,14 +650,10 @@ impl Registers {
         requires { (n ≡ size t.now) × (0 < self.depth) }
         ensures { result ≡ back_to t.now to self }
     {
-        if to == 0 {
+        if to == 0 || n < to {
             return Next::Outside;
         }
-        if to <= n {
-            Next::On(self.popped_to(to))
-        } else {
-            Next::Outside
-        }
+        Next::On(self.popped_to(to))
     }
 
     fn ret(self, returns: &[u16; PENDING], t: &[u8], n: usize, len: usize) -> Next
@@ -642,7 +667,7 @@ impl Registers {
         if d == 0 {
             return Next::Stop(Reason::Finished);
         }
-        self.back_to(n, wide(returns[d - 1]), t)
+        self.back_to(n, usize::from(returns[d - 1]), t)
     }
 
     fn end_choice(self, n: usize, len: usize) -> Next
@@ -702,14 +727,14 @@ impl Registers {
 // Steps
 
 // What a step may do: write so many words of events, and wait for an answer.
-#[derive(Clone, Copy)]
+#[derive(Clone, Copy, Debug, PartialEq, Eq)]
 pub struct Terms {
     pub room: usize,
     pub pause: bool,
 }
 
 // The same, with the instruction that was fetched and the words of the table.
-#[derive(Clone, Copy)]
+#[derive(Clone, Copy, Debug, PartialEq, Eq)]
 struct Due {
     n: usize,
     room: usize,
@@ -758,37 +783,15 @@ impl Registers {
         requires { (n ≤ 4096) × (self.location ≤ n) }
         ensures { result ≡ operate_of room paused answers.now ins self }
     {
-        if ins < UPDATE {
-            Next::Outside
-        } else if ins < UPDATE_WITH {
-            self.update(n, machine::instruction_length(ins), room, Event::Plain(ins))
-        } else if ins < ASK {
-            self.update(
-                n,
-                machine::instruction_length(ins),
-                room,
-                Event::With(ins, low_word(self.parameter)),
-            )
-        } else if ins < ASK_WITH {
-            self.answer(
-                n,
-                machine::instruction_length(ins),
-                room,
-                paused,
-                answers,
-                Event::Plain(ins),
-            )
-        } else if ins < PAST_OPERATIONS {
-            self.answer(
-                n,
-                machine::instruction_length(ins),
-                room,
-                paused,
-                answers,
-                Event::With(ins, low_word(self.parameter)),
-            )
-        } else {
-            Next::Outside
+        let len = machine::instruction_length(ins);
+        let plain = Event::Plain(ins);
+        let with = Event::With(ins, low_word(self.parameter));
+        match ins {
+            UPDATE..UPDATE_WITH => self.update(n, len, room, plain),
+            UPDATE_WITH..ASK => self.update(n, len, room, with),
+            ASK..ASK_WITH => self.answer(n, len, room, paused, answers, plain),
+            ASK_WITH..PAST_OPERATIONS => self.answer(n, len, room, paused, answers, with),
+            _ => Next::Outside,
         }
     }
 
@@ -807,10 +810,7 @@ impl Registers {
     {
         let n = table_words(t);
         let at = self.location;
-        if at == 0 {
-            return Next::Outside;
-        }
-        if n < at {
+        if at == 0 || n < at {
             return Next::Outside;
         }
         let x = Due {
@@ -828,10 +828,10 @@ fn fetched(t: &[u8], n: usize, loc: usize) -> u16
     requires { n ≡ size t.now }
     ensures { result ≡ number_at t.now loc }
 {
-    if loc == 0 {
+    if loc == 0 || n < loc {
         return 0;
     }
-    if loc <= n { word(t, loc - 1) } else { 0 }
+    word(t, loc - 1)
 }
 
 // Steps of a walk
@@ -840,31 +840,23 @@ fn fetched(t: &[u8], n: usize, loc: usize) -> u16
 // (docs/DECISIONS.md); `repeats` in proofs/Steps.antt says that it is these steps repeated.
 
 impl Walk {
-    fn with_registers(mut self, q: Registers) -> Walk
-        ensures { result ≡ with_at self q }
+    fn with_registers(self, at: Registers) -> Walk
+        ensures { result ≡ with_at self at }
     {
-        self.at = q;
-        self
+        Walk { at, ..self }
     }
 
-    fn in_phase(self, p: Phase) -> Walk
-        ensures { result ≡ in_phase self p }
+    fn in_phase(self, phase: Phase) -> Walk
+        ensures { result ≡ in_phase self phase }
     {
-        let at = self.at;
-        let returns = self.returns;
-        Walk {
-            phase: p,
-            at,
-            returns,
-        }
+        Walk { phase, ..self }
     }
 
     fn read_token(self) -> Walk
         requires { self.at.read + 1 < 2 ^ 64 }
         ensures { result ≡ token_read self }
     {
-        let at = self.at;
-        self.with_registers(at.read_token())
+        self.with_registers(self.at.read_token())
     }
 
     // One more return location, above those that it holds.
@@ -883,18 +875,15 @@ impl Walk {
         requires { (0 < self.at.depth) × (self.at.depth ≤ 64) }
         ensures { result ≡ returned self }
     {
-        let at = self.at;
-        let returns = self.returns;
-        let d = at.depth;
-        self.with_registers(at.popped_to(wide(returns[d - 1])))
+        let back = self.returns[self.at.depth - 1];
+        self.with_registers(self.at.popped_to(usize::from(back)))
     }
 
     // Takes the answer that it waited for, and goes on.
     fn give_answer(self, x: u16) -> Walk
         ensures { result ≡ answered self x }
     {
-        let at = self.at;
-        self.with_registers(at.give_answer(x))
+        self.with_registers(self.at.give_answer(x))
             .in_phase(Phase::Going)
     }
 
@@ -912,13 +901,11 @@ impl Walk {
         ensures { result ≡ took_of self x }
     {
         match x {
-            Next::Full => self.says(Said::Undone(base::FULL)),
+            Next::Full => self.says(Said::Undone(Ending::Full)),
             Next::Outside => self
                 .in_phase(Phase::Stopped(Reason::Outside))
-                .says(Said::Undone(base::OUTSIDE)),
-            Next::Stop(why) => self
-                .in_phase(Phase::Stopped(why))
-                .says(Said::Stops(number_of(why))),
+                .says(Said::Undone(Ending::Stopped(Reason::Outside))),
+            Next::Stop(why) => self.in_phase(Phase::Stopped(why)).says(Said::Stops(why)),
             Next::On(q) => self.with_registers(q).says(Said::On),
             Next::Tells(q, e) => self.with_registers(q).says(Said::Tells(e)),
             Next::Push(q, back) => self.with_registers(q).push(back).says(Said::On),
@@ -963,14 +950,10 @@ impl Walk {
         }
         let w = self.ret();
         let to = w.at.location;
-        if to == 0 {
+        if to == 0 || n < to {
             return self.took(Next::Outside);
         }
-        if to <= n {
-            w.says(Said::On)
-        } else {
-            self.took(Next::Outside)
-        }
+        w.says(Said::On)
     }
 
     // One step of a walk that goes on. An instruction that is not done here changes registers, or pushes.
@@ -994,11 +977,10 @@ impl Walk {
     pub fn step(self, t: &[u8], tokens: &[u8], answers: &[u8], room: usize, paused: bool) -> Stepped
         ensures { result ≡ walk_step_of t.now tokens.now answers.now room paused self self.phase }
     {
-        let phase = self.phase;
-        match phase {
+        match self.phase {
             Phase::Going => self.clipped().next(t, tokens, answers, room, paused),
-            Phase::Waiting => self.says(Said::Undone(base::REFUSED)),
-            Phase::Stopped(why) => self.says(Said::Undone(number_of(why))),
+            Phase::Waiting => self.says(Said::Undone(Ending::Refused)),
+            Phase::Stopped(why) => self.says(Said::Undone(Ending::Stopped(why))),
         }
     }
 }
@@ -1006,27 +988,22 @@ impl Walk {
 // Calls
 
 // What a call gives that leaves this walk. (With registers and return locations as parameters the loop would be slower.)
-fn ended(walk: Walk, events: usize, steps: u64, number: u16) -> Called
-    ensures { result ≡ called walk events steps number }
+fn ended(walk: Walk, events: usize, steps: u64, ending: Ending) -> Called
+    ensures { result ≡ called walk events steps ending }
 {
     Called {
         walk,
         events: events as u64,
         steps,
-        number,
+        ending,
     }
 }
 
 // What a call gives that does nothing: the walk as it is.
-fn undone(walk: Walk, number: u16) -> Called
-    ensures { result ≡ called walk 0 0 number }
+fn undone(walk: Walk, ending: Ending) -> Called
+    ensures { result ≡ called walk 0 0 ending }
 {
-    Called {
-        walk,
-        events: 0,
-        steps: 0,
-        number,
-    }
+    ended(walk, 0, 0, ending)
 }
 
 // A call: one return location more is held.
@@ -1042,30 +1019,28 @@ pub fn hold(returns: &mut [u16; PENDING], q: Registers, back: u16) -> Registers
 
 impl Walk {
     // Its registers as they are read.
-    fn clipped(mut self) -> Walk
+    fn clipped(self) -> Walk
         ensures { (result.phase ≡ self.phase) × (result.at ≡ first64 self.at) × (result.returns ≡ self.returns) }
     {
-        let at = self.at.clipped();
-        self.at = at;
-        self
+        self.with_registers(self.at.clipped())
     }
 
     // It stops for good, and its call ends.
     fn stopped(self, why: Reason, events: usize, steps: u64) -> Called
-        ensures { result ≡ called (in_phase self (Stopped why)) events steps (number_of why) }
+        ensures { result ≡ called (in_phase self (Stopped why)) events steps (Ending.Stopped why) }
     {
         ended(
             self.in_phase(Phase::Stopped(why)),
             events,
             steps,
-            number_of(why),
+            Ending::Stopped(why),
         )
     }
 
     // The end of a call, with a step x that does not go on.
     fn last(self, x: Next, events: usize, steps: u64, out: &mut [u8]) -> Called
         requires { Ends (count out.old - 3 * events) x × (steps + 1 < 2 ^ 64) }
-        ensures { outcome result.walk out.new result.events result.steps result.number ≡ last_of (took_of self x) out.old events steps }
+        ensures { outcome result.walk out.new result.events result.steps (ending_number result.ending) ≡ last_of (took_of self x) out.old events steps }
     {
         match x {
             Next::Outside => self.stopped(Reason::Outside, events, steps),
@@ -1073,10 +1048,10 @@ impl Walk {
             Next::Waits(q, e) => {
                 put_event(out, EVENT_WORDS * events, e);
                 let walk = self.with_registers(q).in_phase(Phase::Waiting);
-                ended(walk, events + 1, steps + 1, base::WAITS)
+                ended(walk, events + 1, steps + 1, Ending::Waits)
             }
             // the one that is left: no room
-            _ => ended(self, events, steps, base::FULL),
+            _ => ended(self, events, steps, Ending::Full),
         }
     }
 
@@ -1094,7 +1069,7 @@ impl Walk {
         ensures walk_value { result.walk ≡ (go_of t.now tokens.now answers.now pause budget self.at self.returns out.old 0 0).walk }
         ensures events_value { result.events ≡ (go_of t.now tokens.now answers.now pause budget self.at self.returns out.old 0 0).events }
         ensures steps_value { result.steps ≡ (go_of t.now tokens.now answers.now pause budget self.at self.returns out.old 0 0).steps }
-        ensures number_value { result.number ≡ (go_of t.now tokens.now answers.now pause budget self.at self.returns out.old 0 0).number }
+        ensures number_value { ending_number result.ending ≡ (go_of t.now tokens.now answers.now pause budget self.at self.returns out.old 0 0).number }
         ensures out_after { out.new ≡ (go_of t.now tokens.now answers.now pause budget self.at self.returns out.old 0 0).out }
     {
         let phase = Phase::Going;
@@ -1105,6 +1080,7 @@ impl Walk {
         // words left for events
         let mut room = machine::count_words(out);
         let known = machine::LENGTHS;
+        // the loop that docs/DECISIONS.md measures: a range is not tried
         while done < budget {
             let x = at.next(&known, &returns, t, tokens, answers, Terms { room, pause });
             match x {
@@ -1120,7 +1096,7 @@ impl Walk {
             }
             done += 1;
         }
-        ended(Walk { phase, at, returns }, events, done, base::SPENT)
+        ended(Walk { phase, at, returns }, events, done, Ending::Spent)
     }
 
     // A whole walk's call: up to budget steps, with all answers given. `whole_of` has the code's own order; `whole-call` in proofs/Link.antt says that it is
@@ -1136,16 +1112,15 @@ impl Walk {
         ensures walk_value { result.walk ≡ (whole_of table.now tokens.now answers.now budget self events.old self.phase).walk }
         ensures events_value { result.events ≡ (whole_of table.now tokens.now answers.now budget self events.old self.phase).events }
         ensures steps_value { result.steps ≡ (whole_of table.now tokens.now answers.now budget self events.old self.phase).steps }
-        ensures number_value { result.number ≡ (whole_of table.now tokens.now answers.now budget self events.old self.phase).number }
+        ensures number_value { ending_number result.ending ≡ (whole_of table.now tokens.now answers.now budget self events.old self.phase).number }
         ensures events_after { events.new ≡ (whole_of table.now tokens.now answers.now budget self events.old self.phase).out }
     {
-        let phase = self.phase;
-        match phase {
+        match self.phase {
             Phase::Going => self
                 .clipped()
                 .go(table, tokens, answers, false, budget, events),
-            Phase::Waiting => undone(self, base::REFUSED),
-            Phase::Stopped(why) => undone(self, number_of(why)),
+            Phase::Waiting => undone(self, Ending::Refused),
+            Phase::Stopped(why) => undone(self, Ending::Stopped(why)),
         }
     }
 
@@ -1155,41 +1130,28 @@ impl Walk {
         self,
         table: &[u8],
         tokens: &[u8],
-        given: bool,
-        answer: u16,
+        answer: Option<u16>,
         budget: u64,
         events: &mut [u8],
     ) -> Called
-        ensures walk_value { result.walk ≡ (paused_of table.now tokens.now given answer budget self events.old self.phase).walk }
-        ensures events_value { result.events ≡ (paused_of table.now tokens.now given answer budget self events.old self.phase).events }
-        ensures steps_value { result.steps ≡ (paused_of table.now tokens.now given answer budget self events.old self.phase).steps }
-        ensures number_value { result.number ≡ (paused_of table.now tokens.now given answer budget self events.old self.phase).number }
-        ensures events_after { events.new ≡ (paused_of table.now tokens.now given answer budget self events.old self.phase).out }
+        ensures walk_value { result.walk ≡ (paused_of table.now tokens.now answer budget self events.old self.phase).walk }
+        ensures events_value { result.events ≡ (paused_of table.now tokens.now answer budget self events.old self.phase).events }
+        ensures steps_value { result.steps ≡ (paused_of table.now tokens.now answer budget self events.old self.phase).steps }
+        ensures number_value { ending_number result.ending ≡ (paused_of table.now tokens.now answer budget self events.old self.phase).number }
+        ensures events_after { events.new ≡ (paused_of table.now tokens.now answer budget self events.old self.phase).out }
     {
-        let phase = self.phase;
-        match phase {
-            Phase::Going => {
-                if given {
-                    return undone(self, base::REFUSED);
-                }
-                self.clipped()
-                    .go(table, tokens, tokens, true, budget, events)
-            }
-            Phase::Waiting => {
-                if given {
-                    return self
-                        .clipped()
-                        .give_answer(answer)
-                        .go(table, tokens, tokens, true, budget, events);
-                }
-                undone(self, base::REFUSED)
-            }
-            Phase::Stopped(why) => {
-                if given {
-                    return undone(self, base::REFUSED);
-                }
-                undone(self, number_of(why))
-            }
+        match (self.phase, answer) {
+            (Phase::Going, None) => self
+                .clipped()
+                .go(table, tokens, tokens, true, budget, events),
+            (Phase::Going, Some(_)) => undone(self, Ending::Refused),
+            (Phase::Waiting, None) => undone(self, Ending::Refused),
+            (Phase::Waiting, Some(word)) => self
+                .clipped()
+                .give_answer(word)
+                .go(table, tokens, tokens, true, budget, events),
+            (Phase::Stopped(why), None) => undone(self, Ending::Stopped(why)),
+            (Phase::Stopped(_), Some(_)) => undone(self, Ending::Refused),
         }
     }
 }

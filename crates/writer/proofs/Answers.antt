@@ -8,6 +8,10 @@ use lib.Dec.{leb}
 use lib.ListN.{length, drop, replicate}
 use lib.Seq.{take_all}
 use borrow.Author.Tests.{le-leb, lt-leb}
+use Rattle.std.specs.Prelude.{Ok, Err}
+use Rattle.loader.specs.Records.{error_number}
+use Rattle.loader.specs.declared.FileError.{FileError}
+use Rattle.loader.specs.declared.FileError.TheVariants.{NotFormed, TooShort, NotTaken}
 use Rattle.buffers.proofs.Zeros.{length-zeroed, over-zeroed}
 use Rattle.buffers.specs.Words.{zeroed}
 use Rattle.loader.proofs.Filing.{bounds}
@@ -35,14 +39,14 @@ is-allowed (suc n) v a b = rw (le-leb 1 (suc n) (omega arith), le-leb (suc n) 40
 
 -- Answers
 
-refusal : (a : Answer) (number : ℕ) (before after : List ℕ) → a ≡ refused number → after ≡ zeroed before → Stores a number 0 before after
+refusal : (a : Answer) (error : FileError) (before after : List ℕ) → a ≡ refused (error_number error) → after ≡ zeroed before → Stores a (Err error) before after
 unfolding numbers_of lent_bytes lent_words zeroed
-refusal a number before after e f = record { number_is = rw e; words_are = rw e; lent = rw e f }
+refusal a error before after e f = record { number_is = rw e refl; words_are = rw e refl; lent = rw e f }
 
 handed : (a : Answer) (file : List ℕ) (v total : ℕ) (before after : List ℕ) → a ≡ done file v → total ≡ length file
-    → after ≡ bytes_of (file ++ replicate (count before - length file) 0) ++ drop (2 * count before) before → Stores a 0 total before after
+    → after ≡ bytes_of (file ++ replicate (count before - length file) 0) ++ drop (2 * count before) before → Stores a (Ok total) before after
 unfolding numbers_of lent_bytes lent_words
-handed a file v total before after e f h = record { number_is = rw e; words_are = rw e f; lent = rw e h }
+handed a file v total before after e f h = record { number_is = rw e refl; words_are = rw e f; lent = rw e h }
 
 module _ (s out : List ℕ) (n v : ℕ) (r : Bool) (en : n ≡ count s) (er : r ≡ allowed n v) where
   size_is : n ≡ length (words_of s)
@@ -51,9 +55,9 @@ module _ (s out : List ℕ) (n v : ℕ) (r : Bool) (en : n ≡ count s) (er : r 
   right : allowed (length (words_of s)) v ≡ r
   right = ap (λ (m : ℕ). allowed m v) (sym size_is) ∙ sym er
 
-  pub store-40 : r ≡ false → (after : List ℕ) → after ≡ zeroed out → Stores (store (words_of s) v (count out)) 40 0 out after
+  pub store-40 : r ≡ false → (after : List ℕ) → after ≡ zeroed out → Stores (store (words_of s) v (count out)) (Err NotFormed) out after
   unfolding store
-  store-40 f after e = refusal _ 40 out after (rw (right, f)) e
+  store-40 f after e = refusal _ NotFormed out after (rw (right, f) refl) e
 
   module _ (t : r ≡ true) where
     bound : (1 ≤ n) × (n ≤ 4096) × (v ≤ 1)
@@ -76,9 +80,9 @@ module _ (s out : List ℕ) (n v : ℕ) (r : Bool) (en : n ≡ count s) (er : r 
       unfolding file_length
       total-low = omega (arith, et, bound.1)
 
-      pub store-20 : count out < total → (after : List ℕ) → after ≡ zeroed out → Stores (store (words_of s) v (count out)) 20 0 out after
+      pub store-20 : count out < total → (after : List ℕ) → after ≡ zeroed out → Stores (store (words_of s) v (count out)) (Err TooShort) out after
       unfolding store
-      store-20 u after e = refusal _ 20 out after (rw (right, t, lt-leb (length (file_words (words_of s) v)) (count out) (omega (arith, total-is)))) e
+      store-20 u after e = refusal _ TooShort out after (rw (right, t, lt-leb (length (file_words (words_of s) v)) (count out) (omega (arith, total-is))) refl) e
 
       module _ (u : total ≤ count out) where
         fit : leb (length (file_words (words_of s) v)) (count out) ≡ true
@@ -89,18 +93,18 @@ module _ (s out : List ℕ) (n v : ℕ) (r : Bool) (en : n ≡ count s) (er : r 
         unfolding table_of
         whole = take_all 4096 (words_of s) (omega (arith, bound.1, size_is))
 
-        pub store-41 : (k : Bool) → k ≡ taken (table_of s) → k ≡ false → (after : List ℕ) → after ≡ zeroed out → Stores (store (words_of s) v (count out)) 41 0 out after
+        pub store-41 : (k : Bool) → k ≡ taken (table_of s) → k ≡ false → (after : List ℕ) → after ≡ zeroed out → Stores (store (words_of s) v (count out)) (Err NotTaken) out after
         unfolding store
-        store-41 k g f after e = let q : taken (words_of s) ≡ false = ap taken (sym whole) ∙ sym g ∙ f in refusal _ 41 out after (rw (right, t, fit, q)) e
+        store-41 k g f after e = let q : taken (words_of s) ≡ false = ap taken (sym whole) ∙ sym g ∙ f in refusal _ NotTaken out after (rw (right, t, fit, q) refl) e
 
         pub fits : (cleared : List ℕ) → cleared ≡ zeroed out → Fits (file_words (words_of s) v) total cleared
         unfolding count
         fits cleared e = record { words = total-is; room = omega (arith, u, ap length e, length-zeroed out); low = total-low }
 
         pub store-0 : (k : Bool) → k ≡ taken (table_of s) → k ≡ true → (cleared after : List ℕ) → cleared ≡ zeroed out
-            → after ≡ over (bytes_of (file_words (words_of s) v)) cleared → Stores (store (words_of s) v (count out)) 0 total out after
+            → after ≡ over (bytes_of (file_words (words_of s) v)) cleared → Stores (store (words_of s) v (count out)) (Ok total) out after
         unfolding store
         store-0 k g f cleared after e d =
             let q : taken (words_of s) ≡ true = ap taken (sym whole) ∙ sym g ∙ f in
-            handed _ (file_words (words_of s) v) v total out after (rw (right, t, fit, q)) total-is
+            handed _ (file_words (words_of s) v) v total out after (rw (right, t, fit, q) refl) total-is
             (d ∙ ap (over (bytes_of (file_words (words_of s) v))) e ∙ over-zeroed (file_words (words_of s) v) out (omega (arith, u, total-is)))

@@ -1,11 +1,22 @@
 -- What writing a file leaves with its caller.
-use Rattle.std.specs.Prelude.{List, ◌≡◌, ℕ, ◌+◌, ◌*◌, ◌-◌, ◌/◌, ◌≤◌, length}
+use Rattle.std.specs.Prelude.{Result, Ok, Err, List, ◌≡◌, ℕ, ◌+◌, ◌*◌, ◌-◌, ◌/◌, ◌≤◌, length}
 use Rattle.loading.specs.File.{Answer, numbers_of, lent_bytes}
+use Rattle.loader.specs.Records.{error_number}
+use Rattle.loader.specs.declared.FileError.{FileError}
 
--- the numbers and the lent bytes are the answer's
-pub record Stores (a : Answer) (number words : ℕ) (before after : List ℕ) : Type 0 where
-  pub number_is : number ≡ (numbers_of a).number
-  pub words_are : words ≡ (numbers_of a).words
+-- what C is told of a result: its number, and the words of the file
+abbrev pub number_in : Result ℕ FileError → ℕ
+number_in (Ok words) = 0
+number_in (Err error) = error_number error
+
+abbrev pub words_in : Result ℕ FileError → ℕ
+words_in (Ok words) = words
+words_in (Err error) = 0
+
+-- the result and the lent bytes are the answer's
+pub record Stores (a : Answer) (r : Result ℕ FileError) (before after : List ℕ) : Type 0 where
+  pub number_is : number_in r ≡ (numbers_of a).number
+  pub words_are : words_in r ≡ (numbers_of a).words
   pub lent : after ≡ lent_bytes a before
 
 -- a table of n words, 1 to 4,096

@@ -6,26 +6,16 @@ ghost use Rattle.machine.specs.Bytes.{count, words_of, bytes_of, over};
 ghost use Rattle.loading.specs.File.{records, file_words, allowed, store};
 ghost use Rattle.writer.specs.Storing.{Sized, Fits, file_length, Stores};
 
-use loader::{RECORD, RECORD_HEAD, RECORD_WORDS, RECORDS_AT};
-
-// What writing answers: 0, 40, 20 or 41; the words of the file.
-#[derive(Clone, Copy)]
-pub struct Stored {
-    pub number: u16,
-    pub words: usize,
-}
+use loader::{FileError, RECORD, RECORD_HEAD, RECORD_WORDS, RECORDS_AT};
 
 // Whether a table of so many words has a file with the verdict.
 fn is_allowed(n: usize, verdict: u64) -> bool
     ensures { result ≡ allowed n verdict }
 {
-    if n == 0 {
-        return false;
+    match n {
+        1..=base::TABLE_WORDS => verdict <= 1,
+        _ => false,
     }
-    if base::TABLE_WORDS < n {
-        return false;
-    }
-    verdict <= 1
 }
 
 // The words of the file of a table of n words: each record has two more than its words.
@@ -33,8 +23,7 @@ fn file_length(n: usize) -> usize
     requires { n ≤ 4096 }
     ensures { result ≡ file_length n }
 {
-    let records = (n + RECORD_WORDS - 1) / RECORD_WORDS;
-    n + RECORD_HEAD * records + RECORDS_AT
+    n + RECORD_HEAD * n.div_ceil(RECORD_WORDS) + RECORDS_AT
 }
 
 // The words before the first record.
@@ -42,27 +31,20 @@ fn header_word(n: usize, verdict: u64, j: usize) -> u16
     requires { (n ≤ 4096) × (verdict ≤ 1) × (j < 4) }
     ensures { result ≡ get_or (18500 ∷ 2 ∷ n ∷ verdict ∷ []) j 0 }
 {
-    if j == 0 {
-        return loader::HEAD_MARK;
-    }
-    if j == loader::COUNT_AT {
-        return loader::HEAD_WORDS;
-    }
-    if j == loader::LENGTH_AT {
-        return n as u16;
-    }
-    verdict as u16
+    let header = [
+        loader::HEAD_MARK,
+        loader::HEAD_WORDS,
+        n as u16,
+        verdict as u16,
+    ];
+    header[j]
 }
 
 // The count of a record, where so many words of the table are left.
 fn record_count(left: usize) -> u16
     ensures { result ≡ min 256 left }
 {
-    if left < RECORD_WORDS {
-        left as u16
-    } else {
-        RECORD_WORDS as u16
-    }
+    left.min(RECORD_WORDS) as u16
 }
 
 // The word at index j of the records of a table of n words.
@@ -72,13 +54,11 @@ fn record_word(table: &[u8], n: usize, j: usize) -> u16
 {
     let before = j / RECORD * RECORD_WORDS;
     let at = j % RECORD;
-    if at == 0 {
-        return loader::TABLE_MARK;
+    match at {
+        0 => loader::TABLE_MARK,
+        loader::COUNT_AT => record_count(n - before),
+        _ => machine::word(table, before + at - RECORD_HEAD),
     }
-    if at == loader::COUNT_AT {
-        return record_count(n - before);
-    }
-    machine::word(table, before + at - RECORD_HEAD)
 }
 
 // The word at index j of the file.
@@ -87,9 +67,10 @@ fn file_word(table: &[u8], n: usize, verdict: u64, j: usize) -> u16
     ensures { result ≡ get_or (file_words (words_of table.now) verdict) j 0 }
 {
     if j < RECORDS_AT {
-        return header_word(n, verdict, j);
+        header_word(n, verdict, j)
+    } else {
+        record_word(table, n, j - RECORDS_AT)
     }
-    record_word(table, n, j - RECORDS_AT)
 }
 
 // The words of the file, one after the other.
@@ -97,43 +78,28 @@ fn put_file(table: &[u8], n: usize, verdict: u64, total: usize, file: &mut [u8])
     requires { Sized (words_of table.now) n × (verdict ≤ 1) × Fits (file_words (words_of table.now) verdict) total file.old }
     ensures { file.new ≡ over (bytes_of (file_words (words_of table.now) verdict)) file.old }
 {
-    let mut j: usize = 0;
-    while j < total {
-        let x = file_word(table, n, verdict, j);
-        buffers::put_word(file, j, x);
-        j += 1;
+    for j in 0..total {
+        buffers::put_word(file, j, file_word(table, n, verdict, j));
     }
 }
 
-// The file of a table and a verdict is written into the lent buffer.
-pub fn write_file(table: &[u8], verdict: u64, file: &mut [u8]) -> Stored
-    ensures { Stores (store (words_of table.now) verdict (count file.old)) result.number result.words file.old file.new }
+// The file of a table and a verdict is written into the lent buffer; how many words it has.
+pub fn write_file(table: &[u8], verdict: u64, file: &mut [u8]) -> Result<usize, FileError>
+    ensures { Stores (store (words_of table.now) verdict (count file.old)) result file.old file.new }
 {
     let n = machine::count_words(table);
     let room = file.len() / 2;
     buffers::clear_words(file);
     if !is_allowed(n, verdict) {
-        return Stored {
-            number: base::NOT_FORMED,
-            words: 0,
-        };
+        return Err(FileError::NotFormed);
     }
     let total = file_length(n);
     if room < total {
-        return Stored {
-            number: base::TOO_SHORT,
-            words: 0,
-        };
+        return Err(FileError::TooShort);
     }
     if !loader::takes(table) {
-        return Stored {
-            number: base::NOT_TAKEN,
-            words: 0,
-        };
+        return Err(FileError::NotTaken);
     }
     put_file(table, n, verdict, total, file);
-    Stored {
-        number: 0,
-        words: total,
-    }
+    Ok(total)
 }

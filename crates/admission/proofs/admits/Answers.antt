@@ -8,11 +8,11 @@ use Rattle.admission.proofs.admits.Goals as goal
 pub returns-then-not-reach : goal.returns-then-not-reach
 returns-then-not-reach c = not_taken _ _ (sym c.if-not-reach.true ∙ c.reach.ensures.answer)
 
-pub lowest_denied-at-requires : goal.lowest_denied-at-requires
-lowest_denied-at-requires c = record { size_is = search rules; row = search rules; small = length-table_of _; flags = c.reach.ensures.flags c.if-not-reach.false }
+pub lowest_denied-requires : goal.lowest_denied-requires
+lowest_denied-requires c = record { size_is = search rules; row = search rules; small = length-table_of _; flags = c.reach.ensures.flags c.if-not-reach.false }
 
-pub returns-then-at-eq0 : goal.returns-then-at-eq0
-returns-then-at-eq0 c = all-granted _ _ (sym c.if-not-reach.false ∙ c.reach.ensures.answer) _ c.lowest_denied-at.ensures c.if-at-eq0.true
+pub returns-in-Some : goal.returns-in-Some
+returns-in-Some c = one-denied _ _ (sym c.if-not-reach.false ∙ c.reach.ensures.answer) _ c.in-Some.ensures
 
-pub returns : goal.returns
-returns c = one-denied _ _ (sym c.if-not-reach.false ∙ c.reach.ensures.answer) _ c.lowest_denied-at.ensures c.if-at-eq0.false
+pub returns-in-None : goal.returns-in-None
+returns-in-None c = all-granted _ _ (sym c.if-not-reach.false ∙ c.reach.ensures.answer) c.in-None.ensures tt

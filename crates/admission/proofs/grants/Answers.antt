@@ -1,9 +1,10 @@
 -- `admission::grants` meets its contract.
+use mathlib.Core.Path.{refl}
 use Rattle.admission.proofs.Laws.{grants-there, grants-past}
 use Rattle.admission.proofs.grants.Goals as goal
 
-pub returns-then-i-set : goal.returns-then-i-set
-returns-then-i-set c = grants-there _ _ _ c.requires c.weight-w.ensures.0
+pub returns-in-Some : goal.returns-in-Some
+returns-in-Some c = grants-there c.args.set.now c.args.op c.in-Some.byte.now _ c.requires (c.in-Some.ensures.lookup.3.1 0) refl
 
-pub returns-else-i-set : goal.returns-else-i-set
-returns-else-i-set c = grants-past _ _ c.requires c.if-i-set.false
+pub returns-in-None : goal.returns-in-None
+returns-in-None c = grants-past c.args.set.now c.args.op c.requires c.in-None.ensures.lookup.3

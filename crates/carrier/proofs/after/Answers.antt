@@ -1,19 +1,28 @@
 -- `carrier::after` meets its contract.
-use Rattle.carrier.proofs.Words.{follows-operand, follows-label, follows-table, follows-two, follows-one}
+use mathlib.Core.Path.{refl, sym, ap, ◌∙◌}
+use Prim.Native.Nat.{◌*◌}
+use borrow.Author.Tests.{ne_eqb}
+use Rattle.machine.specs.Lengths.{length_of}
+use Rattle.carry.specs.Scan.{labels_left}
+use Rattle.carrier.specs.Going.{expects_by}
 use Rattle.carrier.proofs.after.Goals as goal
 
--- `carrier::after` meets its contract.
-pub returns-then-n-eq-OPERAND : goal.returns-then-n-eq-OPERAND
-returns-then-n-eq-OPERAND c = follows-operand c.args.here c.args.n.kind c.args.n.left c.args.w c.if-n-eq-OPERAND.true
+pub returns-in-Operand : goal.returns-in-Operand
+unfolding expects_by
+returns-in-Operand c = rw c.in-Operand.is refl
 
-pub returns-then-n-eq-LABEL : goal.returns-then-n-eq-LABEL
-returns-then-n-eq-LABEL c = follows-label c.args.here c.args.n.kind c.args.n.left c.args.w _ _ c.if-n-eq-LABEL.true c.labels.ensures
+pub returns-in-Label : goal.returns-in-Label
+unfolding expects_by
+returns-in-Label c = rw c.in-Label.is c.labels.ensures
 
-pub returns-then-here : goal.returns-then-here
-returns-then-here c = follows-table c.args.here c.args.n.kind c.args.n.left c.args.w _ _ _ c.if-n-eq-OPERAND.false c.if-n-eq-LABEL.false c.if-here.true c.wide.ensures.0 c.labels-then-here.ensures
+pub returns-in-Instruction : goal.returns-in-Instruction
+unfolding expects_by
+returns-in-Instruction c = rw (c.in-Instruction.is, c.if-here.true) (c.labels-in-Instruction.ensures ∙ ap (λ n. labels_left (2 * n)) c.from.ensures)
 
-pub returns-then-instruction_length-eq2 : goal.returns-then-instruction_length-eq2
-returns-then-instruction_length-eq2 c = follows-two c.args.here c.args.n.kind c.args.n.left c.args.w _ _ c.if-n-eq-OPERAND.false c.if-n-eq-LABEL.false c.if-here.false c.instruction_length.ensures c.if-instruction_length-eq2.true c.wide-then-instruction_length-eq2.ensures.0
+pub returns-in-Instruction-2 : goal.returns-in-Instruction-2
+unfolding expects_by
+returns-in-Instruction-2 c = rw (c.in-Instruction.is, c.if-here.false, sym c.instruction_length.ensures ∙ c.if-instruction_length-eq2.true) refl
 
-pub returns : goal.returns
-returns c = follows-one c.args.here c.args.n.kind c.args.n.left c.args.w _ c.if-n-eq-OPERAND.false c.if-n-eq-LABEL.false c.if-here.false c.instruction_length.ensures c.if-instruction_length-eq2.false
+pub returns-in-Instruction-3 : goal.returns-in-Instruction-3
+unfolding expects_by
+returns-in-Instruction-3 c = rw (c.in-Instruction.is, c.if-here.false, ne_eqb (length_of c.args.w) 2 (λ z. c.if-instruction_length-eq2.false (c.instruction_length.ensures ∙ z))) refl

@@ -1,17 +1,15 @@
 -- `carrier::announce` meets its contract.
-use Rattle.carrier.proofs.Words.{tells-no-operand, tells-no-choice, tells-past, tells-table}
+use mathlib.Core.Path.{sym, ◌∙◌}
 use native.Mathlib.Omega.{arith}
+use Rattle.carrier.proofs.Words.{tells-same, tells-table, tells-past}
+use Rattle.carrier.specs.Going.{meant}
 use Rattle.carrier.proofs.announce.Goals as goal
 
--- `carrier::announce` meets its contract.
-pub returns-then-n-ne-OPERAND : goal.returns-then-n-ne-OPERAND
-returns-then-n-ne-OPERAND c = tells-no-operand c.args.flags.now c.args.o c.args.n.kind c.args.n.left c.args.w c.if-n-ne-OPERAND.true
+pub returns-then-t-flags : goal.returns-then-t-flags
+returns-then-t-flags c = rw c.from.ensures (tells-table c.args.flags.now c.args.o (meant c.args.next) c.args.w (sym c.announces.ensures ∙ c.if-announces.true) (omega (arith, c.if-t-flags.true, c.from.ensures)))
 
-pub returns-then-not-chooses : goal.returns-then-not-chooses
-returns-then-not-chooses c = tells-no-choice c.args.flags.now c.args.o c.args.n.kind c.args.n.left c.args.w _ c.chooses.ensures c.if-not-chooses.true
+pub returns-else-t-flags : goal.returns-else-t-flags
+returns-else-t-flags c = tells-past c.args.flags.now c.args.o (meant c.args.next) c.args.w (omega (arith, c.if-t-flags.false, c.from.ensures))
 
-pub returns-then-flags-t : goal.returns-then-flags-t
-returns-then-flags-t c = tells-past c.args.flags.now c.args.o c.args.n.kind c.args.n.left c.args.w _ c.wide.ensures.0 c.if-flags-t.true
-
-pub returns : goal.returns
-returns c = tells-table c.args.flags.now c.args.o c.args.n.kind c.args.n.left c.args.w _ _ c.if-n-ne-OPERAND.false c.chooses.ensures c.if-not-chooses.false c.wide.ensures.0 (omega (arith, c.if-flags-t.false))
+pub returns-else-announces : goal.returns-else-announces
+returns-else-announces c = tells-same c.args.flags.now c.args.o (meant c.args.next) c.args.w (sym c.announces.ensures ∙ c.if-announces.false)

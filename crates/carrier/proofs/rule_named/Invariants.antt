@@ -1,10 +1,7 @@
--- `carrier::rule_named` meets its contract.
+-- `carrier::rule_named` meets its contract: no rule before j has the name.
 use Rattle.carrier.proofs.Laws.{Sought}
-use Prim.Native.Nat.{◌-◌}
+use Rattle.carrier.specs.Held.{count_held}
 use Rattle.carrier.proofs.rule_named.Given as goal
 
 abbrev pub invariant-loop-j : goal.invariant-loop-j
-invariant-loop-j l = Sought l.old l.sheet l.i l.new l.other l.n l.j
-
-abbrev pub decreases-loop-j : goal.decreases-loop-j
-decreases-loop-j l = l.n - l.j
+invariant-loop-j l = Sought l.old.text.now l.old.sheet.now l.i l.new.text.now l.new.sheet.now (count_held l.new.sheet.now) l.j

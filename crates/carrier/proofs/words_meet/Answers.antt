@@ -1,14 +1,13 @@
 -- `carrier::words_meet` meets its contract.
-use Rattle.carrier.proofs.Words.{meets-no-operand, meets-no-call, meets_call}
+use mathlib.Core.Path.{refl, sym, ◌∙◌}
+use Rattle.carrier.specs.Going.{words_meet}
 use Rattle.carrier.specs.Held.{calls_held}
 use Rattle.carrier.proofs.words_meet.Goals as goal
 
--- `carrier::words_meet` meets its contract.
-pub returns-then-n-ne-OPERAND : goal.returns-then-n-ne-OPERAND
-returns-then-n-ne-OPERAND c = meets-no-operand _ c.args.n.kind c.args.n.left c.args.w c.args.v c.if-n-ne-OPERAND.true
+pub returns-then-calls : goal.returns-then-calls
+unfolding words_meet
+returns-then-calls c = rw (sym c.calls.ensures ∙ c.if-calls.true) (c.calls_meet.ensures ∙ (λ i. calls_held c.args.old.text.now c.args.old.sheet.now c.args.new.text.now c.args.new.sheet.now (c.from.ensures i) (c.from-then-calls.ensures i)))
 
-pub returns-then-n-ne-CALL : goal.returns-then-n-ne-CALL
-returns-then-n-ne-CALL c = meets-no-call _ c.args.n.kind c.args.n.left c.args.w c.args.v c.if-n-ne-CALL.true
-
-pub returns : goal.returns
-returns c = meets_call (calls_held c.args.old.now c.args.sheet.now c.args.new.now c.args.other.now) c.args.n.kind c.args.n.left c.args.w c.args.v _ _ _ c.if-n-ne-OPERAND.false c.if-n-ne-CALL.false c.wide.ensures.0 c.wide-2.ensures.0 c.calls_meet.ensures
+pub returns-else-calls : goal.returns-else-calls
+unfolding words_meet
+returns-else-calls c = rw (sym c.calls.ensures ∙ c.if-calls.false) refl

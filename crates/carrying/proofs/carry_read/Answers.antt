@@ -7,8 +7,8 @@ use Rattle.carrying.proofs.Texts.{written}
 use Rattle.carrying.proofs.Told.{both-accepted}
 use Rattle.carrying.proofs.carry_read.Goals as goal
 
-pub slice_bounds-carry_prepared-end-2 : goal.slice_bounds-carry_prepared-end-2
-slice_bounds-carry_prepared-end-2 c = sym (length-take-le 770 c.args.sheets.now (omega (arith, c.requires.0)))
+pub slice_bounds-before-end : goal.slice_bounds-before-end
+slice_bounds-before-end c = sym (length-take-le 770 c.args.sheets.now (omega (arith, c.requires.0)))
 
 pub carry_prepared-requires : goal.carry_prepared-requires
 carry_prepared-requires c = (c.requires.1.as_ready, (written (second-is-read c.args.sheets.now c.requires.2) c.write_table.ensures).as_ready)

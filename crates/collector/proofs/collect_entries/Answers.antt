@@ -20,7 +20,7 @@ pub shape_of-rows-then-w-eq-SEMICOLON : goal.shape_of-rows-then-w-eq-SEMICOLON
 shape_of-rows-then-w-eq-SEMICOLON c = c.collect_entry-e.auto.rows ∙ c.loop-e.invariant.3
 
 pub returns-then-w-eq-SEMICOLON : goal.returns-then-w-eq-SEMICOLON
-returns-then-w-eq-SEMICOLON c = c.loop-e.invariant.4 _ _ (entries-last c.collect_entry-e.ensures c.look-w.ensures c.if-w-eq-SEMICOLON.true c.larger-top.ensures)
+returns-then-w-eq-SEMICOLON c = c.loop-e.invariant.4 _ _ (entries-last c.collect_entry-e.ensures c.look-w.ensures c.if-w-eq-SEMICOLON.true c.max-top.ensures)
 
 pub shape_of-rows-then-e-i : goal.shape_of-rows-then-e-i
 shape_of-rows-then-e-i c = c.collect_entry-e.auto.rows ∙ c.loop-e.invariant.3
@@ -32,4 +32,4 @@ pub loop-e-smaller : goal.loop-e-smaller
 loop-e-smaller c = omega (arith, c.if-e-i.false, c.collect_entry-e.ensures.bounds.high)
 
 pub loop-e-preserved : goal.loop-e-preserved
-loop-e-preserved c = (omega (arith, c.if-e-i.false), c.collect_entry-e.ensures.bounds.high, c.collect_entry-e.ensures.bounds.small, c.collect_entry-e.auto.rows ∙ c.loop-e.invariant.3, λ rows' r e. c.loop-e.invariant.4 rows' r (entries-more c.collect_entry-e.ensures c.look-w.ensures c.if-w-eq-SEMICOLON.false c.larger-top.ensures c.collect_entry-e.auto.rows e))
+loop-e-preserved c = (omega (arith, c.if-e-i.false), c.collect_entry-e.ensures.bounds.high, c.collect_entry-e.ensures.bounds.small, c.collect_entry-e.auto.rows ∙ c.loop-e.invariant.3, λ rows' r e. c.loop-e.invariant.4 rows' r (entries-more c.collect_entry-e.ensures c.look-w.ensures c.if-w-eq-SEMICOLON.false c.max-top.ensures c.collect_entry-e.auto.rows e))

@@ -3,4 +3,4 @@ use Rattle.collector.proofs.Sections.{errors-read}
 use Rattle.collector.proofs.collect_errors.Goals as goal
 
 pub returns : goal.returns
-returns c = errors-read c.collect_listed-e.ensures c.larger-error.ensures
+returns c = errors-read c.collect_listed-e.ensures c.max.ensures

@@ -3,4 +3,4 @@ use Rattle.collector.proofs.Sections.{inputs_read}
 use Rattle.collector.proofs.collect_inputs.Goals as goal
 
 pub returns : goal.returns
-returns c = inputs_read c.collect_listed-e.ensures c.larger-input.ensures
+returns c = inputs_read c.collect_listed-e.ensures c.max.ensures

@@ -4,19 +4,18 @@ use mathlib.Core.Path.{refl}
 use Rattle.syntax.specs.Sections.{first_of}
 use Rattle.collector.proofs.first_of.Goals as goal
 
--- `collector::first_of` meets its contract.
-pub returns-then-gives : goal.returns-then-gives
+pub returns-in-true-true : goal.returns-in-true-true
 unfolding first_of
-returns-then-gives c = (rw (c.if-takes.true, c.if-gives.true) refl, omega arith)
+returns-in-true-true c = (rw (c.in-true-true.is-0, c.in-true-true.is-1) refl, omega arith)
 
-pub returns-then-takes : goal.returns-then-takes
+pub returns-in-true-false : goal.returns-in-true-false
 unfolding first_of
-returns-then-takes c = (rw (c.if-takes.true, c.if-gives.false) refl, omega arith)
+returns-in-true-false c = (rw (c.in-true-false.is-0, c.in-true-false.is-1) refl, omega arith)
 
-pub returns-then-gives-2 : goal.returns-then-gives-2
+pub returns-in-false-true : goal.returns-in-false-true
 unfolding first_of
-returns-then-gives-2 c = (rw (c.if-takes.false, c.if-gives-2.true) refl, omega arith)
+returns-in-false-true c = (rw (c.in-false-true.is-0, c.in-false-true.is-1) refl, omega arith)
 
-pub returns : goal.returns
+pub returns-in-false-false : goal.returns-in-false-false
 unfolding first_of
-returns c = (rw (c.if-takes.false, c.if-gives-2.false) refl, omega arith)
+returns-in-false-false c = (rw (c.in-false-false.is-0, c.in-false-false.is-1) refl, omega arith)

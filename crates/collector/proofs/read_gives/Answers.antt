@@ -3,7 +3,7 @@ use Rattle.collector.proofs.Laws.{gives-not, gives-there}
 use Rattle.collector.proofs.read_gives.Goals as goal
 
 pub returns-then-w-eq-TWICE : goal.returns-then-w-eq-TWICE
-returns-then-w-eq-TWICE c = gives-there c.look-w.ensures c.if-w-eq-TWICE.true c.look-t.ensures c.found.ensures
+returns-then-w-eq-TWICE c = rw c.from.ensures (gives-there c.look-w.ensures c.if-w-eq-TWICE.true c.look-t.ensures)
 
-pub returns : goal.returns
-returns c = gives-not c.requires c.look-w.ensures c.if-w-eq-TWICE.false c.nothing.ensures
+pub returns-else-w-eq-TWICE : goal.returns-else-w-eq-TWICE
+returns-else-w-eq-TWICE c = gives-not c.requires c.look-w.ensures c.if-w-eq-TWICE.false

@@ -1,4 +1,4 @@
--- `counting::adds_up` meets its contract: what is left of the total and the first i counts are the total.
+-- `counting::adds_up` meets its contract: what is left of the total and the counts so far are the total.
 use mathlib.Core.Path.{◌≡◌, refl, sym, ◌∙◌}
 use Prim.Native.Nat.{ℕ, zero, suc, ◌+◌}
 use native.Mathlib.Omega.{arith}
@@ -14,24 +14,24 @@ same_test : (left total all : ℕ) → left + all ≡ total → eqb left 0 ≡ e
 same_test zero total all e = eq-eqb 0 0 refl ∙ sym (eq-eqb total all (omega arith))
 same_test (suc left) total all e = ne_eqb (suc left) 0 (λ q. omega arith) ∙ sym (ne_eqb total all (λ q. omega arith))
 
-pub loop-i-init : goal.loop-i-init
+pub loop-count-init : goal.loop-count-init
 unfolding sum
-loop-i-init c = (omega arith, omega arith)
+loop-count-init c = (omega arith, omega arith)
 
-pub returns-then-left-c : goal.returns-then-left-c
-returns-then-left-c c =
+pub returns-then-left-count : goal.returns-then-left-count
+returns-then-left-count c =
     let a = c.args in
-    let n = sum-next a.counts.now c.loop-i.i (omega arith) in
-    sym (ne_eqb a.total (sum a.counts.now) (λ e. omega (arith, e, n, sum-most a.counts.now (c.loop-i.i + 1), c.loop-i.invariant.1, c.if-left-c.true)))
+    let n = sum-next a.counts.now c.loop-count.count-index (omega arith) in
+    sym (ne_eqb a.total (sum a.counts.now) (λ e. omega (arith, e, n, sum-most a.counts.now (c.loop-count.count-index + 1), c.loop-count.invariant.1, c.if-left-count.true)))
 
-pub loop-i-preserved : goal.loop-i-preserved
-loop-i-preserved c =
+pub loop-count-preserved : goal.loop-count-preserved
+loop-count-preserved c =
     let a = c.args in
-    (omega arith, omega (arith, c.loop-i.invariant.1, sum-next a.counts.now c.loop-i.i (omega arith), c.if-left-c.false))
+    (omega arith, omega (arith, c.loop-count.invariant.1, sum-next a.counts.now c.loop-count.count-index (omega arith), c.if-left-count.false))
 
 pub returns : goal.returns
 returns c =
     let a = c.args in
-    let e : take c.loop-i.i a.counts.now ≡ a.counts.now = take_all c.loop-i.i a.counts.now (omega arith) in
-    let q : c.loop-i.left + sum a.counts.now ≡ a.total = rw e at c.loop-i.invariant.1 in
-    same_test c.loop-i.left a.total (sum a.counts.now) q
+    let e : take c.loop-count.count-index a.counts.now ≡ a.counts.now = take_all c.loop-count.count-index a.counts.now (omega arith) in
+    let q : c.loop-count.left + sum a.counts.now ≡ a.total = rw e at c.loop-count.invariant.1 in
+    same_test c.loop-count.left a.total (sum a.counts.now) q

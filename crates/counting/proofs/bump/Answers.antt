@@ -8,7 +8,8 @@ use lib.ListN.{get_or, set}
 use lib.Seq.{set-get_or}
 use Rattle.std.specs.Prelude.{if◌then◌else◌}
 use Rattle.figures.specs.Figures.{bump}
-use Rattle.counting.proofs.bump.Goals.{then-writes, else-writes}
+use Rattle.std.specs.Int.{from_bool}
+use Rattle.base.specs.Bools.{split}
 use Rattle.counting.proofs.bump.Goals as goal
 
 -- `counting::bump` meets its contract: adding 0 leaves the counts as they are.
@@ -24,19 +25,7 @@ module _ (cs : List ℕ) (l : ℕ) where
       let e : get_or cs (l - 1) 0 + n ≡ get_or cs (l - 1) 0 = omega arith in
       rw p (ap (λ (x : ℕ). set cs (l - 1) x) e ∙ set-get_or cs (l - 1) 0)
 
-pub overflow_add-counts : goal.overflow_add-counts
-overflow_add-counts c =
-    record {
-      fits = elim c.if-writes.branch [
-        | then-writes w ↦ omega (arith, w.one-is, c.requires.1.1 w.if-writes.true)
-        | else-writes w ↦ omega (arith, w.one-is)
-      ];
-    }
-
 pub returns : goal.returns
 returns c =
     let a = c.args in
-    elim c.if-writes.branch [
-      | then-writes w ↦ one_more a.counts.now a.l a.writes _ w.if-writes.true w.one-is
-      | else-writes w ↦ as-was a.counts.now a.l a.writes _ w.if-writes.false w.one-is
-    ]
+    split a.writes (λ t. one_more a.counts.now a.l a.writes _ t (c.from.ensures ∙ ap from_bool t)) (λ t. as-was a.counts.now a.l a.writes _ t (c.from.ensures ∙ ap from_bool t))

@@ -1,10 +1,11 @@
 -- `counting::count_book` meets its contract: the invariant carries the call and the locations still to come, and each case of `Next` has its law.
-use mathlib.Core.Path.{refl, sym, ◌∙◌}
+use mathlib.Core.Path.{◌≡◌, refl, sym, ap, ◌∙◌}
 use native.Mathlib.Omega.{arith}
 use Rattle.machine.specs.Bytes.{count}
 use Rattle.machine.specs.Lengths.{lengths}
 use Rattle.counting.proofs.Loop.{never-waits, at-spent, at-full, at-outside, at-stop, stop-room, moved_as, moved_on, moved-tells, moved-push, tells-room, push-deep, move-room, again, start}
 use Rattle.counting.proofs.count_book.Goals.{in-On, in-Tells, in-Push}
+use Rattle.counting.specs.Counting.{told_of}
 use Rattle.counting.proofs.count_book.Goals as goal
 
 pub loop-done-init : goal.loop-done-init
@@ -78,4 +79,5 @@ loop-done-preserved c =
 
 pub returns : goal.returns
 returns c =
-    let p = at-spent _ _ _ _ _ _ _ _ _ _ _ _ _ _ _ c.loop-done.invariant c.loop-done-test.false in record { value = c.ended-2.ensures ∙ p.0; out_after = (p.1).0; counts_after = (p.1).1 }
+    let e : c.args.b.budget ≡ c.loop-done.done = omega (arith, c.loop-done.invariant.within, c.loop-done-test.false) in
+    let p = at-spent _ _ _ _ _ _ _ _ _ _ _ _ _ _ _ c.loop-done.invariant c.loop-done-test.false in record { value = c.ended-2.ensures ∙ ap (told_of 36 c.loop-done.events) e ∙ p.0; out_after = (p.1).0; counts_after = (p.1).1 }

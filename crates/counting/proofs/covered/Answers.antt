@@ -16,23 +16,20 @@ pub loop-j-init : goal.loop-j-init
 unfolding figures.covered
 loop-j-init c = (omega arith, (omega arith, refl))
 
-pub number_at-w-requires : goal.number_at-w-requires
-number_at-w-requires c = omega arith
-
-pub overflow_cast-n : goal.overflow_cast-n
-overflow_cast-n c = record { fits = omega (arith, ones-le 64 c.number_at-w.result c.number_at-w.type_inv) }
+pub number_at-requires : goal.number_at-requires
+number_at-requires c = omega arith
 
 pub overflow_add-n : goal.overflow_add-n
-overflow_add-n c = record { fits = omega (arith, ones-le 64 c.number_at-w.result c.number_at-w.type_inv, c.loop-j.invariant.1.0, c.loop-j-test.true) }
+overflow_add-n c = record { fits = omega (arith, c.from-n.ensures, ones-le 64 c.number_at.result c.number_at.type_inv, c.loop-j.invariant.1.0, c.loop-j-test.true) }
 
 pub loop-j-preserved : goal.loop-j-preserved
 loop-j-preserved c =
     let ws = words_of c.args.s.now in
     let j = c.loop-j.j in
     let t = c.loop-j-test.true in
-    let w : ones (get_or (numbers_at ws 4096 64) j 0) ≡ ones c.number_at-w.result = ap ones (get_d-numbers_at ws 4096 64 j t ∙ sym c.number_at-w.ensures) in
+    let w : ones (get_or (numbers_at ws 4096 64) j 0) ≡ ones c.number_at.result = ap ones (get_d-numbers_at ws 4096 64 j t ∙ sym c.number_at.ensures) in
     let n = covered_next (numbers_at ws 4096 64) j (omega (arith, t, length-numbers_at ws 4096 64)) in
-    (omega (arith, t), (omega (arith, ones-le 64 c.number_at-w.result c.number_at-w.type_inv, c.loop-j.invariant.1.0), omega (arith, n, w, c.loop-j.invariant.1.1)))
+    (omega (arith, t), (omega (arith, c.from-n.ensures, ones-le 64 c.number_at.result c.number_at.type_inv, c.loop-j.invariant.1.0), omega (arith, c.from-n.ensures, n, w, c.loop-j.invariant.1.1)))
 
 pub returns : goal.returns
 returns c =

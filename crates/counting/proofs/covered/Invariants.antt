@@ -1,6 +1,6 @@
 -- `counting::covered` meets its contract: the ones of the first j words.
 use mathlib.Core.Path.{◌≡◌}
-use Prim.Native.Nat.{◌*◌, ◌-◌, ◌≤◌}
+use Prim.Native.Nat.{◌*◌, ◌≤◌}
 use lib.ListN.{take}
 use Rattle.figures.specs.Figures as figures
 use Rattle.figures.specs.Form.{numbers_at}
@@ -9,6 +9,3 @@ use Rattle.counting.proofs.covered.Given as goal
 
 abbrev pub invariant-loop-j : goal.invariant-loop-j
 invariant-loop-j l = (l.j ≤ 64) × ((l.n ≤ l.j * 64) × (l.n ≡ figures.covered (take l.j (numbers_at (words_of l.s) 4096 64))))
-
-abbrev pub decreases-loop-j : goal.decreases-loop-j
-decreases-loop-j l = 64 - l.j

@@ -1,6 +1,6 @@
 -- `counting::covers` meets its contract: the words up to j are the same.
 use mathlib.Core.Path.{◌≡◌}
-use Prim.Native.Nat.{◌-◌, ◌≤◌}
+use Prim.Native.Nat.{◌≤◌}
 use lib.ListN.{drop}
 use Rattle.base.specs.Common.{same}
 use Rattle.figures.specs.Figures.{bits_of}
@@ -10,6 +10,3 @@ use Rattle.counting.proofs.covers.Given as goal
 
 abbrev pub invariant-loop-j : goal.invariant-loop-j
 invariant-loop-j l = (l.j ≤ 64) × (same (numbers_at (words_of l.s) 4096 64) (bits_of 64 l.counts) ≡ same (drop l.j (numbers_at (words_of l.s) 4096 64)) (drop l.j (bits_of 64 l.counts)))
-
-abbrev pub decreases-loop-j : goal.decreases-loop-j
-decreases-loop-j l = 64 - l.j

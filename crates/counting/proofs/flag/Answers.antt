@@ -2,6 +2,11 @@
 use mathlib.Core.Path.{◌≡◌, refl, sym, ap, ◌∙◌}
 use Prim.Native.Nat.{ℕ, zero, suc}
 use native.Mathlib.Omega.{arith}
+use mathlib.Core.Bool.{Bool, not}
+use lib.Dec.{eqb}
+use borrow.Author.Tests.{eqb-true, eqb-false}
+use Rattle.std.specs.Int.{from_bool}
+use Rattle.base.specs.Bools.{split}
 use Rattle.figures.specs.Figures as figures
 use Rattle.counting.proofs.flag.Goals as goal
 
@@ -15,8 +20,9 @@ unfolding figures.flag
 some-flag zero h = absurd (h refl)
 some-flag (suc c) h = refl
 
-pub returns-then-c-eq0 : goal.returns-then-c-eq0
-returns-then-c-eq0 c = (sym (ap figures.flag c.if-c-eq0.true ∙ none), omega arith)
-
-pub returns-else-c-eq0 : goal.returns-else-c-eq0
-returns-else-c-eq0 c = (sym (some-flag c.args.c c.if-c-eq0.false), omega arith)
+pub returns : goal.returns
+returns c =
+    let x = c.args.c in
+    split (eqb x 0)
+    (λ t. let e = c.from.ensures ∙ ap (λ (b : Bool). from_bool (not b)) t in (e ∙ sym (ap figures.flag (eqb-true x 0 t) ∙ none), omega (arith, e)))
+    (λ t. let e = c.from.ensures ∙ ap (λ (b : Bool). from_bool (not b)) t in (e ∙ sym (some-flag x (eqb-false x 0 t)), omega (arith, e)))

@@ -10,4 +10,4 @@ bump-requires c = c.requires
 
 pub returns : goal.returns
 returns c =
-    let a = c.args in record { value = c.ended.ensures ∙ ap (λ (m : ℕ). told_of m a.events a.steps) c.number_of.ensures; counts_after = c.bump.ensures }
+    let a = c.args in record { value = c.ended.ensures ∙ ap (λ (m : ℕ). told_of m a.events a.steps) c.from.ensures; counts_after = c.bump.ensures }

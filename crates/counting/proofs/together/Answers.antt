@@ -34,9 +34,6 @@ returns-then-all-t c =
 pub overflow_add-all : goal.overflow_add-all
 overflow_add-all c = record { fits = omega (arith, c.if-all-t.false, c.loop-i.invariant.1.0) }
 
-pub overflow_add-i-in-loop-i : goal.overflow_add-i-in-loop-i
-overflow_add-i-in-loop-i c = record { fits = omega (arith, c.loop-i-test.true, c.ranges.n) }
-
 pub loop-i-smaller : goal.loop-i-smaller
 loop-i-smaller c = omega (arith, c.loop-i-test.true)
 

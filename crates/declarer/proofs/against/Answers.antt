@@ -1,14 +1,15 @@
 -- `declarer::against` meets its contract.
+use Rattle.symbols.proofs.Searches.{answer-tells}
 use native.Mathlib.Omega.{arith}
 use Rattle.symbols.specs.Rows.{held}
 use Rattle.declarer.proofs.OperatorLaws.{left-start, left-stops, left-goes, left-ends}
 use Rattle.declarer.proofs.against.Goals as goal
 
-pub find_value-v-requires : goal.find_value-v-requires
-find_value-v-requires c = c.requires.0
+pub find_value-requires : goal.find_value-requires
+find_value-requires c = c.requires.0
 
 pub loop-k-init : goal.loop-k-init
-loop-k-init c = (omega arith, c.requires.1, c.find_value-v.ensures.tells, λ es ws' d h from o ws₁ is. left-start d h)
+loop-k-init c = (omega arith, c.requires.1, (answer-tells c.unwrap_or-v.ensures c.find_value.ensures.same c.find_value.ensures.low), λ es ws' d h from o ws₁ is. left-start d h)
 
 pub read_entry-b-requires : goal.read_entry-b-requires
 read_entry-b-requires c = c.loop-k.invariant.1

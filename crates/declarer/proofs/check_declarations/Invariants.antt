@@ -9,8 +9,5 @@ use Rattle.declarer.proofs.check_declarations.Given as goal
 
 abbrev pub invariant-loop-i : goal.invariant-loop-i
 invariant-loop-i l =
-    (l.i ≤ l.n) × ((entries : ℕ → List Operator) → EntriesAt l.text (held l.text l.rows l.n) entries
+    ((entries : ℕ → List Operator) → EntriesAt l.text (held l.text l.rows l.n) entries
     → decl_faults (held l.text l.rows l.n) entries [] (held l.text l.rows l.n) ≡ decl_faults (held l.text l.rows l.n) entries (held l.text l.rows l.i) (held_from l.text l.rows l.i (l.n - l.i)))
-
-abbrev pub decreases-loop-i : goal.decreases-loop-i
-decreases-loop-i l = l.n - l.i

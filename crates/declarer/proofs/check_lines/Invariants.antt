@@ -6,7 +6,4 @@ use Rattle.declarer.proofs.FaultLaws.{lines_from}
 use Rattle.declarer.proofs.check_lines.Given as goal
 
 abbrev pub invariant-loop-i : goal.invariant-loop-i
-invariant-loop-i l = (l.i ≤ l.to) × (lines_from l.text l.rows (held l.text l.rows l.n) l.to l.first ≡ lines_from l.text l.rows (held l.text l.rows l.n) l.to l.i)
-
-abbrev pub decreases-loop-i : goal.decreases-loop-i
-decreases-loop-i l = l.to - l.i
+invariant-loop-i l = (lines_from l.text l.rows (held l.text l.rows l.n) l.to l.first ≡ lines_from l.text l.rows (held l.text l.rows l.n) l.to l.i)

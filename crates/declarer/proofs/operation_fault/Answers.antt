@@ -1,5 +1,8 @@
 -- `declarer::operation_fault` meets its contract.
 use Rattle.symbols.proofs.Indexing.{kept_less}
+use mathlib.Core.Path.{refl}
+use Rattle.std.proofs.lemmas.Result.{err_from_is_err_and}
+use Rattle.symbols.proofs.Numbered.{fault-some}
 use Rattle.symbols.specs.Rows.{held, decl_at}
 use Rattle.declarer.proofs.FaultLaws.{operation-go, operation-stop}
 use Rattle.declarer.proofs.operation_fault.Goals as goal
@@ -8,8 +11,8 @@ use Rattle.declarer.proofs.operation_fault.Goals as goal
 pub operation_again-requires : goal.operation_again-requires
 operation_again-requires c = kept_less c.requires.1 c.requires.0
 
-pub returns-then-f-ne0 : goal.returns-then-f-ne0
-returns-then-f-ne0 c = operation-stop (held c.args.text.now c.args.rows.now c.args.n) (held c.args.text.now c.args.rows.now c.args.i) (decl_at c.args.text.now c.args.rows.now c.args.i) (rw c.operation_again.ensures at c.fault_if-f.ensures) c.if-f-ne0.true
+pub returns-in_err-fault_if : goal.returns-in_err-fault_if
+returns-in_err-fault_if c = let p = err_from_is_err_and c.from_residual.result c.from_residual.ensures.1 in rw (p.1, p.2) (operation-stop (held c.args.text.now c.args.rows.now c.args.n) (held c.args.text.now c.args.rows.now c.args.i) (decl_at c.args.text.now c.args.rows.now c.args.i) (rw c.operation_again.ensures at c.in_err-fault_if.ensures) (fault-some _))
 
 pub returns : goal.returns
-returns c = operation-go (held c.args.text.now c.args.rows.now c.args.n) (held c.args.text.now c.args.rows.now c.args.i) (decl_at c.args.text.now c.args.rows.now c.args.i) (rw c.operation_again.ensures at c.fault_if-f.ensures) c.if-f-ne0.false c.types_fault.ensures
+returns c = operation-go (held c.args.text.now c.args.rows.now c.args.n) (held c.args.text.now c.args.rows.now c.args.i) (decl_at c.args.text.now c.args.rows.now c.args.i) (rw c.operation_again.ensures at c.in_ok-fault_if.ensures) refl c.types_fault.ensures

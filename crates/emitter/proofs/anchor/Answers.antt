@@ -1,15 +1,11 @@
-use mathlib.Core.Path.{ap, sym}
-use mathlib.Core.Bool.{Bool, cond}
-use borrow.Author.Tests.{eq-eqb, ne_eqb}
+use mathlib.Core.Path.{refl}
 use Rattle.emitter.specs.Heads.{anchor}
 use Rattle.emitter.proofs.anchor.Goals as goal
 
--- src/lib.rt:141:1
-pub returns-then-k-eq-LOCATION : goal.returns-then-k-eq-LOCATION
+pub returns-in-Location : goal.returns-in-Location
 unfolding anchor
-returns-then-k-eq-LOCATION c = sym (ap (λ (b : Bool). cond b 0 c.args.j) (eq-eqb c.args.k 0 c.if-k-eq-LOCATION.true))
+returns-in-Location c = rw c.in-Location.is refl
 
--- src/lib.rt:141:1
-pub returns-else-k-eq-LOCATION : goal.returns-else-k-eq-LOCATION
+pub returns-in-Distance : goal.returns-in-Distance
 unfolding anchor
-returns-else-k-eq-LOCATION c = sym (ap (λ (b : Bool). cond b 0 c.args.j) (ne_eqb c.args.k 0 c.if-k-eq-LOCATION.false))
+returns-in-Distance c = rw c.in-Distance.is refl

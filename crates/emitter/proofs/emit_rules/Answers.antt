@@ -3,45 +3,23 @@ use native.Mathlib.Omega.{arith}
 use Rattle.emitter.proofs.Rules.{rules-start, rules-go, rules-end}
 use Rattle.emitter.proofs.emit_rules.Goals as goal
 
--- src/lib.rt:732:5
 pub loop-r-init : goal.loop-r-init
-loop-r-init c = let a = c.args in (omega arith, omega arith, omega arith, refl, refl, rules-start a.cells.now a.sorts.now a.rules a.out.now a.slots.now)
+loop-r-init c = let a = c.args in (omega arith, omega arith, refl, refl, rules-start a.cells.now a.sorts.now a.rules a.out.now a.slots.now)
 
--- src/lib.rt:733:9
 pub place_rule-requires : goal.place_rule-requires
 place_rule-requires c = let P = c.requires in let o = c.loop-r in omega arith
 
--- src/lib.rt:734:13
 pub emit_rule-s-requires : goal.emit_rule-s-requires
-emit_rule-s-requires c = let P = c.requires in let o = c.loop-r in record { inside = o.invariant.1; short = P.0; room = omega arith }
+emit_rule-s-requires c = let P = c.requires in let o = c.loop-r in record { inside = o.invariant.0; short = P.0; room = omega arith }
 
--- src/lib.rt:737:13
-pub overflow_add-r : goal.overflow_add-r
-overflow_add-r c = let P = c.requires in let o = c.loop-r in omega arith
-
--- src/lib.rt:732:5
-pub loop-r-smaller : goal.loop-r-smaller
-loop-r-smaller c = let o = c.loop-r in omega (arith, c.loop-r-test.true)
-
--- src/lib.rt:732:5
 pub loop-r-preserved : goal.loop-r-preserved
 loop-r-preserved c = let P = c.requires in let a = c.args in let o = c.loop-r in let m = c.emit_rule-s.ensures.moved in (
-  omega (arith, c.loop-r-test.true),
   m.inside,
   omega (arith, m.few, m.on),
-  c.emit_rule-s.auto.out ∙ (c.place_rule.auto.out ∙ o.invariant.3),
-  c.emit_rule-s.auto.slots ∙ (c.place_rule.auto.slots ∙ o.invariant.4),
-  rules-go a.cells.now a.sorts.now a.rules a.slots.now a.out.now o.q o.l o.r c.sort_at.result _ _ o.out _ _ o.slots _ _ c.loop-r-test.true P.1 o.invariant.4 c.place_rule.auto.slots c.place_rule.ensures c.sort_at.ensures c.emit_rule-s.ensures.rule_done o.invariant.5,
+  c.emit_rule-s.auto.out ∙ (c.place_rule.auto.out ∙ o.invariant.2),
+  c.emit_rule-s.auto.slots ∙ (c.place_rule.auto.slots ∙ o.invariant.3),
+  rules-go a.cells.now a.sorts.now a.rules a.slots.now a.out.now o.q o.l o.r c.sort_at.result _ _ o.out _ _ o.slots _ _ c.loop-r-test.true P.1 o.invariant.3 c.place_rule.auto.slots c.place_rule.ensures c.sort_at.ensures c.emit_rule-s.ensures.rule_done o.invariant.4,
 )
 
--- src/lib.rt:719:1
-pub shape_of-slots : goal.shape_of-slots
-shape_of-slots c = c.loop-r.invariant.4
-
--- src/lib.rt:719:1
-pub shape_of-out : goal.shape_of-out
-shape_of-out c = c.loop-r.invariant.3
-
--- src/lib.rt:719:1
 pub returns : goal.returns
-returns c = let a = c.args in let o = c.loop-r in rules-end a.cells.now a.sorts.now a.rules a.slots.now a.out.now o.q o.l o.r o.out o.slots (omega (arith, c.loop-r-test.false)) o.invariant.5
+returns c = let a = c.args in let o = c.loop-r in rules-end a.cells.now a.sorts.now a.rules a.slots.now a.out.now o.q o.l o.r o.out o.slots (omega (arith, c.loop-r-test.false)) o.invariant.4

@@ -29,7 +29,7 @@ behind-requires c = let P = c.requires in let o = c.loop-j in omega arith
 
 -- src/lib.rt:410:9
 pub emit_labels-requires : goal.emit_labels-requires
-emit_labels-requires c = let P = c.requires in let o = c.loop-j in let w = c.wide-head.ensures in let n = c.labels_at-n.ensures in let e = c.less-l.ensures in omega arith
+emit_labels-requires c = let P = c.requires in let o = c.loop-j in let w = c.from-head.ensures in let n = c.labels_at-n.ensures in let e = c.saturating_sub-l.ensures in omega arith
 
 -- src/lib.rt:411:23
 pub overflow_sub-j-in-loop-j : goal.overflow_sub-j-in-loop-j
@@ -41,11 +41,11 @@ loop-j-smaller c = let h = c.older_at-older.ensures.2 c.loop-j-test.true in omeg
 
 -- src/lib.rt:405:5
 pub loop-j-preserved : goal.loop-j-preserved
-loop-j-preserved c = let h = c.older_at-older.ensures.2 c.loop-j-test.true in let o = c.loop-j in let e = c.less-l.ensures in (
+loop-j-preserved c = let h = c.older_at-older.ensures.2 c.loop-j-test.true in let o = c.loop-j in let e = c.saturating_sub-l.ensures in (
   c.put_word.auto.out ∙ (c.emit_labels.auto.out ∙ c.loop-j.invariant.0),
   omega arith,
   omega arith,
-  table_more c.args.cells.now c.args.out.now c.args.newest c.args.from c.args.end c.loop-j.out _ _ c.loop-j.j c.loop-j.l c.wide-head.result c.labels_at-n.result c.older_at-older.result c.less-l.result c.loop-j-test.true (c.wide-head.ensures.0 ∙ c.word.ensures) c.labels_at-n.ensures.0 c.older_at-older.ensures.0 c.less-l.ensures _ c.behind.ensures c.emit_labels.ensures c.put_word.ensures c.loop-j.invariant.3,
+  table_more c.args.cells.now c.args.out.now c.args.newest c.args.from c.args.end c.loop-j.out _ _ c.loop-j.j c.loop-j.l c.from-head.result c.labels_at-n.result c.older_at-older.result c.saturating_sub-l.result c.loop-j-test.true (c.from-head.ensures ∙ c.word.ensures) c.labels_at-n.ensures.0 c.older_at-older.ensures.0 c.saturating_sub-l.ensures _ c.behind.ensures c.emit_labels.ensures c.put_word.ensures c.loop-j.invariant.3,
 )
 
 -- src/lib.rt:399:1

@@ -3,17 +3,14 @@ use borrow.Author.Tests.{lt-ltb, le-ltb}
 use Rattle.emitter.specs.Heads.{labels_in}
 use Rattle.emitter.proofs.labels_in.Goals as goal
 
--- src/lib.rt:210:9
-pub returns-then-k-lt-ALTERNATIVE : goal.returns-then-k-lt-ALTERNATIVE
+pub returns-in-64-to-255 : goal.returns-in-64-to-255
 unfolding labels_in
-returns-then-k-lt-ALTERNATIVE c = (simp (lt-ltb _ _ c.if-k-lt-ALTERNATIVE.true), omega arith)
+returns-in-64-to-255 c = (simp (le-ltb c.args.k 64 (omega arith), lt-ltb c.args.k 256 (omega arith)) c.from.ensures, omega (arith, c.from.ensures))
 
--- src/lib.rt:206:1
-pub returns-then-k-lt-UPDATE : goal.returns-then-k-lt-UPDATE
+pub returns-in_default : goal.returns-in_default
 unfolding labels_in
-returns-then-k-lt-UPDATE c = (simp (le-ltb _ _ c.if-k-lt-ALTERNATIVE.false, lt-ltb _ _ c.if-k-lt-UPDATE.true) c.wide.ensures.0, omega arith)
+returns-in_default c = (simp (lt-ltb c.args.k 64 (omega arith)), omega arith)
 
--- src/lib.rt:206:1
-pub returns-else-k-lt-UPDATE : goal.returns-else-k-lt-UPDATE
+pub returns-in_default-2 : goal.returns-in_default-2
 unfolding labels_in
-returns-else-k-lt-UPDATE c = (simp (le-ltb _ _ c.if-k-lt-ALTERNATIVE.false, le-ltb _ _ c.if-k-lt-UPDATE.false), omega arith)
+returns-in_default-2 c = (simp (le-ltb c.args.k 64 (omega arith), le-ltb c.args.k 256 (omega arith)), omega arith)

@@ -5,8 +5,8 @@ use Rattle.emitter.proofs.older_at.Goals as goal
 
 -- src/lib.rt:129:1
 pub returns-then-w-i : goal.returns-then-w-i
-returns-then-w-i c = (sym (link-is c.args.out.now c.args.i c.wide-w.result (sym (c.wide-w.ensures.0 ∙ c.word.ensures)) c.if-w-i.true), omega (arith, c.if-w-i.true), λ h. c.if-w-i.true)
+returns-then-w-i c = (sym (link-is c.args.out.now c.args.i c.from-w.result (sym (c.from-w.ensures ∙ c.word.ensures)) c.if-w-i.true), omega (arith, c.if-w-i.true), λ h. c.if-w-i.true)
 
 -- src/lib.rt:129:1
 pub returns-else-w-i : goal.returns-else-w-i
-returns-else-w-i c = (sym (link-none c.args.out.now c.args.i c.wide-w.result (sym (c.wide-w.ensures.0 ∙ c.word.ensures)) c.if-w-i.false), omega arith, λ h. h)
+returns-else-w-i c = (sym (link-none c.args.out.now c.args.i c.from-w.result (sym (c.from-w.ensures ∙ c.word.ensures)) c.if-w-i.false), omega arith, λ h. h)

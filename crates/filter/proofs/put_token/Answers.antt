@@ -3,4 +3,4 @@ use Rattle.filter.proofs.Writes.{words-one}
 use Rattle.filter.proofs.put_token.Goals as goal
 
 pub returns : goal.returns
-returns c = words-one c.args.map.now c.args.text.now c.args.out.now c.args.k c.byte-b.result _ c.requires.1 c.byte-b.ensures.0 c.put_turned.ensures
+returns c = words-one c.args.map.now c.args.text.now c.args.out.now c.args.k c.from.result _ c.requires.1 c.from.ensures c.put_turned.ensures

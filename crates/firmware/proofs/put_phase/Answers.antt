@@ -25,5 +25,5 @@ returns-in-Waiting c = c.put_two-in-Waiting.ensures ∙ sym (ap (written c.args.
 pub returns-in-Stopped : goal.returns-in-Stopped
 unfolding phase_words phase_of
 returns-in-Stopped c =
-    let number = c.number_of.ensures ∙ number-reason _ in
+    let number = c.from.ensures ∙ number-reason _ in
     c.put_two-in-Stopped.ensures ∙ rw number (sym (ap (written c.args.out.now) c.in-Stopped.is))

@@ -6,7 +6,6 @@ use native.Mathlib.Numerals.{add-one}
 use native.Mathlib.Omega.{arith}
 use lib.ListN.{length, take, get_or}
 use lib.Seq.{length-take-le, take-suc, take_all}
-use borrow.Author.Rules.{rules}
 use Rattle.machine.specs.Bytes.{bytes_of}
 use Rattle.firmware.specs.Writes.{puts}
 use Rattle.firmware.proofs.Laws.{puts_one, puts_then, length-puts, length-return-words, return_held, return-free}
@@ -24,70 +23,59 @@ one_more s d rs i x e l h =
 
 pub loop-i-init : goal.loop-i-init
 unfolding puts bytes_of
-loop-i-init c = (search rules, refl)
-
-pub overflow_add-i : goal.overflow_add-i
-overflow_add-i c = omega (arith, c.held_of-held.ensures)
-
-pub offset_bounds-returns-i : goal.offset_bounds-returns-i
-offset_bounds-returns-i c = omega (arith, c.held_of-held.ensures)
-
-pub bounds-returns-i : goal.bounds-returns-i
-bounds-returns-i c = omega (arith, c.held_of-held.ensures)
+loop-i-init c = refl
 
 pub put_word-requires : goal.put_word-requires
 put_word-requires c =
     let a = c.args in
-    let h = c.held_of-held.ensures in
-    let e = ap length c.loop-i.invariant.1 in
+    let h = c.min-held.ensures in
+    let e = ap length c.loop-i.invariant in
     let n = length-puts a.out.now 15 (take c.loop-i.i (words a.depth a.returns.now)) in
     omega arith
-
-pub overflow_add-i-in-loop-i : goal.overflow_add-i-in-loop-i
-overflow_add-i-in-loop-i c = omega (arith, c.held_of-held.ensures)
 
 pub loop-i-preserved : goal.loop-i-preserved
 loop-i-preserved c =
     let a = c.args in
-    let h = c.held_of-held.ensures in
+    let h = c.min-held.ensures in
     let s = a.out.now in
     let i = c.loop-i.i in
     let d = a.depth in
     let rs = a.returns.now in
     let n : length rs ≡ 64 = omega arith in
     let x = sym (return_held d rs i (omega arith) (omega arith)) in
-    (omega arith, c.put_word.ensures ∙ rw (c.loop-i.invariant.1, puts_one) (one_more s d rs i (get_or rs i 0) n (omega arith) x))
+    c.put_word.ensures ∙ rw (c.loop-i.invariant, puts_one) (one_more s d rs i (get_or rs i 0) n (omega arith) x)
 
 pub loop-i-2-init : goal.loop-i-2-init
-loop-i-2-init c =
-    let h = c.held_of-held.ensures in
-    (omega arith, (omega arith, λ s e. e))
+loop-i-2-init c = λ s e. e
 
 pub put_word-requires-in-loop-i-2 : goal.put_word-requires-in-loop-i-2
 put_word-requires-in-loop-i-2 c =
     let a = c.args in
-    let e = ap length (c.loop-i-2.invariant.1.1 a.out.now c.loop-i.invariant.1) in
+    let k : c.loop-i.i ≡ c.min-held.result = omega arith in
+    let e = ap length (c.loop-i-2.invariant a.out.now (c.loop-i.invariant ∙ ap (λ (j : ℕ). puts a.out.now 15 (take j (words a.depth a.returns.now))) k)) in
     let n = length-puts a.out.now 15 (take c.loop-i-2.i (words a.depth a.returns.now)) in
     omega arith
 
 pub loop-i-2-preserved : goal.loop-i-2-preserved
 loop-i-2-preserved c =
     let a = c.args in
-    let h = c.held_of-held.ensures in
+    let h = c.min-held.ensures in
     let i = c.loop-i-2.i in
     let d = a.depth in
     let rs = a.returns.now in
     let n : length rs ≡ 64 = omega arith in
     let x = sym (return-free d rs i (omega arith)) in
-    (omega arith, (omega arith, λ t e. c.put_word-in-loop-i-2.ensures ∙ rw (c.loop-i-2.invariant.1.1 t e, puts_one) (one_more t d rs i 0 n (omega arith) x)))
+    λ t e. c.put_word-in-loop-i-2.ensures ∙ rw (c.loop-i-2.invariant t e, puts_one) (one_more t d rs i 0 n (omega arith) x)
 
 pub shape_of-out : goal.shape_of-out
 shape_of-out c =
     let a = c.args in
-    ap length (c.loop-i-2.invariant.1.1 a.out.now c.loop-i.invariant.1) ∙ length-puts a.out.now 15 (take c.loop-i-2.i (words a.depth a.returns.now))
+    let k : c.loop-i.i ≡ c.min-held.result = omega arith in
+    ap length (c.loop-i-2.invariant a.out.now (c.loop-i.invariant ∙ ap (λ (j : ℕ). puts a.out.now 15 (take j (words a.depth a.returns.now))) k)) ∙ length-puts a.out.now 15 (take c.loop-i-2.i (words a.depth a.returns.now))
 
 pub returns : goal.returns
 returns c =
     let a = c.args in
     let n = length-return-words a.depth a.returns.now (omega arith) in
-    c.loop-i-2.invariant.1.1 a.out.now c.loop-i.invariant.1 ∙ ap (puts a.out.now 15) (take_all c.loop-i-2.i (words a.depth a.returns.now) (omega arith))
+    let k : c.loop-i.i ≡ c.min-held.result = omega arith in
+    c.loop-i-2.invariant a.out.now (c.loop-i.invariant ∙ ap (λ (j : ℕ). puts a.out.now 15 (take j (words a.depth a.returns.now))) k) ∙ ap (puts a.out.now 15) (take_all c.loop-i-2.i (words a.depth a.returns.now) (omega arith))

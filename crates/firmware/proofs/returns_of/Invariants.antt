@@ -7,6 +7,3 @@ use Rattle.firmware.proofs.returns_of.Given as goal
 
 abbrev pub invariant-loop-i : goal.invariant-loop-i
 invariant-loop-i l = (l.i ≤ 64) × ((length l.returns ≡ 64) × (take l.i l.returns ≡ take l.i (drop 15 (words_of l.s))))
-
-abbrev pub decreases-loop-i : goal.decreases-loop-i
-decreases-loop-i l = 64 - l.i

@@ -3,10 +3,10 @@ use Rattle.walker.specs.View as view
 use Rattle.firmware.specs.Entries.{allowance_or0}
 use Rattle.firmware.proofs.sst_allowance.Goals as goal
 
-pub returns-then-h : goal.returns-then-h
+pub returns-in-Some : goal.returns-in-Some
 unfolding allowance_or0 view.walk_of view.walk_in
-returns-then-h c = rw (c.read_walk-h.ensures.some_walk c.if-h.true) c.low_word.ensures
+returns-in-Some c = rw (c.in-Some.ensures.walk.walk) c.low_word.ensures
 
-pub returns-else-h : goal.returns-else-h
+pub returns-in-None : goal.returns-in-None
 unfolding allowance_or0
-returns-else-h c = rw (c.read_walk-h.ensures.no_walk c.if-h.false)
+returns-in-None c = rw (c.in-None.ensures.no_walk)

@@ -3,10 +3,10 @@ use Rattle.walker.specs.View as view
 use Rattle.firmware.specs.Entries.{phase_number}
 use Rattle.firmware.proofs.sst_phase.Goals as goal
 
-pub returns-then-h : goal.returns-then-h
+pub returns-in-Some : goal.returns-in-Some
 unfolding phase_number view.walk_of view.walk_in
-returns-then-h c = rw (c.read_walk-h.ensures.some_walk c.if-h.true) c.phase_number.ensures
+returns-in-Some c = rw (c.in-Some.ensures.walk.walk) c.phase_number.ensures
 
-pub returns-else-h : goal.returns-else-h
+pub returns-in-None : goal.returns-in-None
 unfolding phase_number
-returns-else-h c = rw (c.read_walk-h.ensures.no_walk c.if-h.false)
+returns-in-None c = rw (c.in-None.ensures.no_walk)

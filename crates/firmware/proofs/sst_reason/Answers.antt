@@ -3,10 +3,10 @@ use Rattle.walker.specs.View as view
 use Rattle.firmware.specs.Entries.{reason_or_none}
 use Rattle.firmware.proofs.sst_reason.Goals as goal
 
-pub returns-then-h : goal.returns-then-h
+pub returns-in-Some : goal.returns-in-Some
 unfolding reason_or_none view.walk_of view.walk_in
-returns-then-h c = rw (c.read_walk-h.ensures.some_walk c.if-h.true) c.reason_or_none.ensures
+returns-in-Some c = rw (c.in-Some.ensures.walk.walk) c.reason_or_none.ensures
 
-pub returns-else-h : goal.returns-else-h
+pub returns-in-None : goal.returns-in-None
 unfolding reason_or_none
-returns-else-h c = rw (c.read_walk-h.ensures.no_walk c.if-h.false)
+returns-in-None c = rw (c.in-None.ensures.no_walk)

@@ -8,5 +8,5 @@ pub returns-then-x : goal.returns-then-x
 returns-then-x c = called-own _ _ _ c.if-x.true
 
 -- src/lib.rt:165:1
-pub returns : goal.returns
-returns c = called-higher _ _ _ c.if-x.false
+pub returns-else-x : goal.returns-else-x
+returns-else-x c = called-higher _ _ _ c.if-x.false

@@ -7,5 +7,5 @@ pub returns-then-right : goal.returns-then-right
 returns-then-right c = close-right _ c.if-right.true c.put_two-c.ensures c.put.ensures
 
 -- src/lib.rt:152:1
-pub returns : goal.returns
-returns c = close-left _ c.if-right.false c.put_two-a.ensures c.put_two-b.ensures c.put-2.ensures
+pub returns-else-right : goal.returns-else-right
+returns-else-right c = close-left _ c.if-right.false c.put_two-a.ensures c.put_two-b.ensures c.put-else-right.ensures

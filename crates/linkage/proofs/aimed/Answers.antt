@@ -8,7 +8,7 @@ use Rattle.linkage.proofs.aimed.Goals as goal
 
 -- src/lib.rt:84:9
 pub returns-then-mark-ne0 : goal.returns-then-mark-ne0
-returns-then-mark-ne0 c = λ low h. by_pair low _ _ _ _ _ _ c.if-mark-ne0.true c.wide.ensures.0 (c.low_of.ensures low h)
+returns-then-mark-ne0 c = λ low h. by_pair low _ _ _ _ _ _ c.if-mark-ne0.true c.from.ensures (c.low_of.ensures low h)
 
 -- src/lib.rt:87:9
 pub returns-then-calls-eq0 : goal.returns-then-calls-eq0

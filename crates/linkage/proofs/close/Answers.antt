@@ -13,38 +13,24 @@ use Rattle.linkage.specs.Closing.{Lows}
 use Rattle.linkage.proofs.Closing.{rest, goes_on, ends}
 use Rattle.linkage.proofs.close.Goals as goal
 
--- src/lib.rt:165:15
 pub overflow_add-end : goal.overflow_add-end
 unfolding count
 overflow_add-end c = omega (arith, length-words_of c.args.objects.now, c.requires.0)
 
--- src/lib.rt:167:29
 pub overflow_add-cells : goal.overflow_add-cells
 overflow_add-cells c = omega arith
 
--- src/lib.rt:175:5
 pub loop-p-init : goal.loop-p-init
 unfolding close_cells
 loop-p-init c =
-    let e = c.least-n.ensures in
+    let e = c.min-n.ensures in
     (search rules, refl, omega arith, refl, λ low h cs k g. appends-then (starts _ _ _ e) g)
 
--- src/lib.rt:177:9
 pub turn-spot-requires : goal.turn-spot-requires
 turn-spot-requires c =
     let g = c.requires in
     (g.1, g.2, g.3, omega (arith, g.4, c.loop-p.invariant.1), g.5)
 
--- src/lib.rt:179:13
-pub overflow_add-p : goal.overflow_add-p
-unfolding count
-overflow_add-p c = omega (arith, c.loop-p.invariant.0, c.loop-p-test.true, length-words_of c.args.objects.now)
-
--- src/lib.rt:175:5
-pub loop-p-smaller : goal.loop-p-smaller
-loop-p-smaller c = omega arith
-
--- src/lib.rt:175:5
 pub loop-p-preserved : goal.loop-p-preserved
 loop-p-preserved c =
     let o = c.loop-p in
@@ -58,11 +44,9 @@ loop-p-preserved c =
     λ low h. goes_on low (words_of a.objects.now) a.names.now (a.body.at + a.body.count) c.loop-p.p c.loop-p.spot c.turn-spot.result _ c.loop-p-test.true c.loop-p.invariant.0 c.word-x.ensures (c.turn-spot.ensures.turned low h) in
     (c.loop-p.invariant.0, c.turn-spot.ensures.end ∙ c.loop-p.invariant.1, omega (arith, n, m), n ∙ c.loop-p.invariant.3, λ low h cs k x. c.loop-p.invariant.4 low h cs k (appends-next (g low h) c.put-n.ensures x))
 
--- src/lib.rt:150:1
 pub shape_of-cells : goal.shape_of-cells
 shape_of-cells c = omega (arith, c.loop-p.invariant.3)
 
--- src/lib.rt:150:1
 pub returns : goal.returns
 returns c =
     let o = c.loop-p in

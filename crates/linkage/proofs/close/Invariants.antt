@@ -16,7 +16,4 @@ invariant-loop-p l =
     (l.end ≤ length (words_of l.objects)) × (texts_end (words_of l.objects) l.spot.calls.at l.spot.calls.left ≡ texts_end (words_of l.objects) l.body.calls.at l.body.calls.left)
     × (l.n ≤ suc (length l.cells)) × (length l.cells ≡ length l.initial.cells)
     × ((low : ℕ → ℕ) → Lows (words_of l.objects) l.sites l.lowest l.body.uses low → (cs : List ℕ) (c : ℕ) → Appends l.cells l.n (rest low (words_of l.objects) l.names l.end l.p l.spot) cs c
-    → Appends l.initial.cells l.from (close_cells low (places_of (words_of l.objects) l.names l.body.calls) (take (l.end - l.initial.p) (drop l.initial.p (words_of l.objects)))) cs c)
-
-abbrev pub decreases-loop-p : goal.decreases-loop-p
-decreases-loop-p l = l.end - l.p
+    → Appends l.initial.cells l.from (close_cells low (places_of (words_of l.objects) l.names l.body.calls) (take (l.end - l.body.at) (drop l.body.at (words_of l.objects)))) cs c)

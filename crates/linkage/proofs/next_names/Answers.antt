@@ -20,8 +20,8 @@ overflow_add-calls c = omega (arith, past_one (words_of c.args.objects.now) c.ar
 
 -- src/lib.rt:101:13
 pub overflow_add-result-2 : goal.overflow_add-result-2
-overflow_add-result-2 c = let w = c.wide.ensures.0 ∙ c.word.ensures in omega (arith, w, past_one (words_of c.args.objects.now) c.args.calls c.if-calls-eq0.false, c.requires)
+overflow_add-result-2 c = let w = c.from.ensures ∙ c.word.ensures in omega (arith, w, past_one (words_of c.args.objects.now) c.args.calls c.if-calls-eq0.false, c.requires)
 
 -- src/lib.rt:93:1
 pub returns : goal.returns
-returns c = behind-one _ _ _ c.if-calls-eq0.false (c.wide.ensures.0 ∙ c.word.ensures)
+returns c = behind-one _ _ _ c.if-calls-eq0.false (c.from.ensures ∙ c.word.ensures)

@@ -3,7 +3,7 @@ use mathlib.Core.Path.{refl, ◌∙◌}
 use native.Mathlib.Omega.{arith}
 use Rattle.linkchecks.specs.Row.{row_from}
 use Rattle.machine.specs.Bytes.{words_of}
-use Rattle.linkage.proofs.Placing.{placing-first, placing-next, placing-end}
+use Rattle.linkage.proofs.Placing.{puts, put-length, placing-first, placing-next, placing-end}
 use Rattle.linkage.proofs.place_rules.Goals as goal
 
 -- src/lib.rt:384:5
@@ -44,15 +44,15 @@ loop-cursor-preserved c =
     let a = c.args in
     let o = c.loop-cursor in
     let x = c.next_rule-cursor.ensures in
-    let y = c.put_start.ensures in
-    let z = c.put_sort.ensures in (
+    let y = c.put_at-in-loop-cursor.ensures in
+    let z = c.put_at.ensures in (
       c.next_rule-cursor.ensures.1,
       c.next_rule-cursor.ensures.2,
       omega (arith, c.next_rule-cursor.ensures.0, c.loop-cursor.invariant.2),
-      omega (arith, c.least-start.ensures),
-      c.put_start.ensures.same ∙ c.loop-cursor.invariant.4,
-      c.put_sort.ensures.same ∙ c.loop-cursor.invariant.5,
-      λ vs v. placing-next a.common.now (words_of a.objects.now) vs (row_from 1 vs) (c.loop-cursor.invariant.6 vs v) (omega (arith, c.loop-cursor-test.true, c.total-end.ensures.0)) c.loop-cursor.invariant.3 c.rule_size.ensures.1 c.rule_sort-sort.ensures y z c.least-start.ensures (c.next_rule-cursor.ensures.3 vs),
+      omega (arith, c.min-start.ensures),
+      put-length _ _ _ y ∙ c.loop-cursor.invariant.4,
+      put-length _ _ _ z ∙ c.loop-cursor.invariant.5,
+      λ vs v. placing-next a.common.now (words_of a.objects.now) vs (row_from 1 vs) (c.loop-cursor.invariant.6 vs v) (omega (arith, c.loop-cursor-test.true, c.total-end.ensures.0)) c.loop-cursor.invariant.3 c.rule_size.ensures.1 c.rule_sort-sort.ensures (puts y) (puts z) c.min-start.ensures (c.next_rule-cursor.ensures.3 vs),
     )
 
 -- src/lib.rt:376:1

@@ -6,40 +6,13 @@ use Rattle.linkchecks.proofs.Finding.{line-none, line-found, line-later}
 use Rattle.linkchecks.proofs.find_line.Goals as goal
 
 pub loop-i-init : goal.loop-i-init
-loop-i-init c = (omega arith, λ hs n x y. omega arith)
-
-pub overflow_mul-i : goal.overflow_mul-i
-overflow_mul-i c = omega arith
-
-pub offset_bounds-heads-i : goal.offset_bounds-heads-i
-offset_bounds-heads-i c = omega arith
-
-pub bounds-heads-i : goal.bounds-heads-i
-bounds-heads-i c = omega arith
-
-pub overflow_mul-i-in-loop-i : goal.overflow_mul-i-in-loop-i
-overflow_mul-i-in-loop-i c = omega arith
-
-pub overflow_add-i : goal.overflow_add-i
-overflow_add-i c = omega arith
-
-pub offset_bounds-heads-i-in-loop-i : goal.offset_bounds-heads-i-in-loop-i
-offset_bounds-heads-i-in-loop-i c = omega arith
-
-pub bounds-heads-i-in-loop-i : goal.bounds-heads-i-in-loop-i
-bounds-heads-i-in-loop-i c = omega arith
+loop-i-init c = λ hs n x y. omega arith
 
 pub returns-then-is_part : goal.returns-then-is_part
-returns-then-is_part c = (omega arith, λ hs n x y. let m = x.as_many in let e = c.loop-i.invariant.1 hs n x y in let f = line-found n.text hs c.loop-i.i (omega (arith, m)) (line-is x n.text c.loop-i.i c.wide-start.result c.wide-size.result c.is_part.result (omega (arith, m)) c.wide-start.ensures.0 c.wide-size.ensures.0 (λ l. c.is_part.ensures n l y) ∙ c.if-is_part.true) in omega (arith, e, f))
-
-pub overflow_add-i-in-loop-i : goal.overflow_add-i-in-loop-i
-overflow_add-i-in-loop-i c = omega arith
-
-pub loop-i-smaller : goal.loop-i-smaller
-loop-i-smaller c = omega arith
+returns-then-is_part c = (omega arith, λ hs n x y. let m = x.as_many in let e = c.loop-i.invariant hs n x y in let f = line-found n.text hs c.loop-i.i (omega (arith, m)) (line-is x n.text c.loop-i.i c.from-start.result c.from-size.result c.is_part.result (omega (arith, m)) c.from-start.ensures c.from-size.ensures (λ l. c.is_part.ensures n l y) ∙ c.if-is_part.true) in omega (arith, e, f))
 
 pub loop-i-preserved : goal.loop-i-preserved
-loop-i-preserved c = (omega arith, λ hs n x y. let m = x.as_many in let e = c.loop-i.invariant.1 hs n x y in let f = line-later n.text hs c.loop-i.i (omega (arith, m)) (line-is x n.text c.loop-i.i c.wide-start.result c.wide-size.result c.is_part.result (omega (arith, m)) c.wide-start.ensures.0 c.wide-size.ensures.0 (λ l. c.is_part.ensures n l y) ∙ c.if-is_part.false) in omega (arith, e, f))
+loop-i-preserved c = λ hs n x y. let m = x.as_many in let e = c.loop-i.invariant hs n x y in let f = line-later n.text hs c.loop-i.i (omega (arith, m)) (line-is x n.text c.loop-i.i c.from-start.result c.from-size.result c.is_part.result (omega (arith, m)) c.from-start.ensures c.from-size.ensures (λ l. c.is_part.ensures n l y) ∙ c.if-is_part.false) in omega (arith, e, f)
 
 pub returns : goal.returns
-returns c = (omega arith, λ hs n x y. let m = x.as_many in let e = c.loop-i.invariant.1 hs n x y in let f = line-none n.text hs c.loop-i.i (omega (arith, m)) in omega (arith, e, f))
+returns c = (omega arith, λ hs n x y. let m = x.as_many in let e = c.loop-i.invariant hs n x y in let f = line-none n.text hs c.loop-i.i (omega (arith, m)) in omega (arith, e, f))

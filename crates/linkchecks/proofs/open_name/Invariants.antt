@@ -12,11 +12,8 @@ use Rattle.linkchecks.specs.Row.{row_from, first_shown, open_name}
 use Rattle.linkchecks.proofs.Finding.{Asking}
 use Rattle.linkchecks.proofs.open_name.Given as goal
 
-abbrev pub invariant-loop-i : goal.invariant-loop-i
-invariant-loop-i l =
-    (l.i ≤ l.n) × (l.q ≤ length (words_of l.objects))
+abbrev pub invariant-loop : goal.invariant-loop
+invariant-loop l =
+    (l.q ≤ length (words_of l.objects))
     × ((vs : List View) (ns : List Name) (rest : List ℕ) → Viewed l.common (words_of l.objects) vs → times l.n a_name (drop l.at (words_of l.objects)) ≡ took ns rest
-    → Asking (words_of l.objects) (open_name (length (words_of l.objects) + 1) (row_from 1 vs) l.text) (first_shown (open_name (length (words_of l.objects) + 1) (row_from 1 vs) l.text) ns) rest (l.n - l.i) l.q)
-
-abbrev pub decreases-loop-i : goal.decreases-loop-i
-decreases-loop-i l = l.n - l.i
+    → Asking (words_of l.objects) (open_name (length (words_of l.objects) + 1) (row_from 1 vs) l.text) (first_shown (open_name (length (words_of l.objects) + 1) (row_from 1 vs) l.text) ns) rest (l.n - l.counter) l.q)

@@ -8,7 +8,7 @@ use Rattle.linker.proofs.count_behind.Goals as goal
 
 pub returns-then-x-lt-PAST : goal.returns-then-x-lt-PAST
 unfolding behind
-returns-then-x-lt-PAST c = simp (lt-ltb _ _ c.if-x-lt-PAST.true) (c.byte.ensures.0 ∙ ap (λ (i : ℕ). get_or behind_table i 0) c.wide.ensures.0)
+returns-then-x-lt-PAST c = simp (lt-ltb _ _ c.if-x-lt-PAST.true) (c.from-then-x-lt-PAST.ensures ∙ ap (λ (i : ℕ). get_or behind_table i 0) c.from.ensures)
 
 pub returns-then-x-lt-ALTERNATIVE : goal.returns-then-x-lt-ALTERNATIVE
 unfolding behind
@@ -16,7 +16,7 @@ returns-then-x-lt-ALTERNATIVE c = simp (le-ltb _ _ c.if-x-lt-PAST.false, lt-ltb 
 
 pub returns-then-x-lt-UPDATE : goal.returns-then-x-lt-UPDATE
 unfolding behind
-returns-then-x-lt-UPDATE c = simp (le-ltb _ _ c.if-x-lt-PAST.false, le-ltb _ _ c.if-x-lt-ALTERNATIVE.false, lt-ltb _ _ c.if-x-lt-UPDATE.true) c.wide-then-x-lt-UPDATE.ensures.0
+returns-then-x-lt-UPDATE c = simp (le-ltb _ _ c.if-x-lt-PAST.false, le-ltb _ _ c.if-x-lt-ALTERNATIVE.false, lt-ltb _ _ c.if-x-lt-UPDATE.true) c.from-then-x-lt-UPDATE.ensures
 
 pub returns-then-x-lt-UPDATE_WITH : goal.returns-then-x-lt-UPDATE_WITH
 unfolding behind

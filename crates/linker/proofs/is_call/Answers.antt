@@ -3,11 +3,10 @@ use borrow.Author.Tests.{eq-eqb, ne_eqb}
 use Rattle.linker.specs.Close.{is_call}
 use Rattle.linker.proofs.is_call.Goals as goal
 
--- `linker::is_call` meets its contract.
 pub returns-then-first-eq-CALL : goal.returns-then-first-eq-CALL
 unfolding is_call
 returns-then-first-eq-CALL c = simp (eq-eqb _ _ c.if-first-eq-CALL.true)
 
-pub returns : goal.returns
+pub returns-else-first-eq-CALL : goal.returns-else-first-eq-CALL
 unfolding is_call
-returns c = simp (ne_eqb _ _ c.if-first-eq-CALL.false)
+returns-else-first-eq-CALL c = simp (ne_eqb _ _ c.if-first-eq-CALL.false)

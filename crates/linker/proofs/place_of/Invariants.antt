@@ -1,15 +1,11 @@
 -- `linker::place_of` meets its contract.
 use mathlib.Core.Path.{◌≡◌}
-use Prim.Native.Nat.{◌+◌, ◌-◌, ◌≤◌}
-use lib.ListN.{length, drop}
+use Prim.Native.Nat.{◌+◌}
+use lib.ListN.{drop}
 use Rattle.machine.specs.Bytes.{words_of}
 use Rattle.linker.specs.Place.{text_at, texts_at, place_of}
 use Rattle.linker.proofs.place_of.Given as goal
 
 abbrev pub invariant-loop-i : goal.invariant-loop-i
 invariant-loop-i l =
-    (l.i ≤ length l.names)
-    × (place_of (text_at (words_of l.words) l.p) (texts_at (words_of l.words) l.names) ≡ l.i + place_of (text_at (words_of l.words) l.p) (texts_at (words_of l.words) (drop l.i l.names)))
-
-abbrev pub decreases-loop-i : goal.decreases-loop-i
-decreases-loop-i l = length l.names - l.i
+    place_of (text_at (words_of l.words) l.p) (texts_at (words_of l.words) l.names) ≡ l.i + place_of (text_at (words_of l.words) l.p) (texts_at (words_of l.words) (drop l.i l.names))

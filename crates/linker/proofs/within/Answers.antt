@@ -10,4 +10,4 @@ pub returns : goal.returns
 returns c =
     let a = c.args in
     let t = c.total.ensures in
-    (ap (text_at (words_of a.words.now)) c.least.ensures ∙ text-within (words_of a.words.now) a.p c.total.result c.total.ensures.0, omega (arith, c.least.ensures, c.total.ensures.1))
+    (ap (text_at (words_of a.words.now)) c.min.ensures ∙ text-within (words_of a.words.now) a.p c.total.result c.total.ensures.0, omega (arith, c.min.ensures, c.total.ensures.1))

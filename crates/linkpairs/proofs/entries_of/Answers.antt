@@ -10,6 +10,6 @@ pub returns-then-row-lt-NONE : goal.returns-then-row-lt-NONE
 unfolding name_of
 returns-then-row-lt-NONE c = let a = c.args in let w = words_of a.objects.now in record { inside = c.entries_at.ensures.inside; are = λ prog names s u x k. entries-are u s k (c.find_section-row.ensures.same (name_of u.section) (section-name w a.p u x (c.section_at.ensures.place u x))) c.entries_at.ensures }
 
-pub returns : goal.returns
+pub returns-else-row-lt-NONE : goal.returns-else-row-lt-NONE
 unfolding name_of
-returns c = let a = c.args in let w = words_of a.objects.now in record { inside = omega arith; are = λ prog names s u x k. let h = row_low u s k (c.find_section-row.ensures.same (name_of u.section) (section-name w a.p u x (c.section_at.ensures.place u x))) in absurd (omega (arith, h)) }
+returns-else-row-lt-NONE c = let a = c.args in let w = words_of a.objects.now in record { inside = omega arith; are = λ prog names s u x k. let h = row_low u s k (c.find_section-row.ensures.same (name_of u.section) (section-name w a.p u x (c.section_at.ensures.place u x))) in absurd (omega (arith, h)) }

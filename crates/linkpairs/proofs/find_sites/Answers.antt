@@ -10,7 +10,7 @@ use Rattle.machine.specs.Bytes.{words_of}
 use Rattle.linkpairs.proofs.find_sites.Goals as goal
 
 pub loop-j-init : goal.loop-j-init
-loop-j-init c = (refl, omega arith, λ i h. absurd (omega (arith, h)))
+loop-j-init c = (refl, λ i h. absurd (omega (arith, h)))
 
 pub offset_bounds-sites-j : goal.offset_bounds-sites-j
 offset_bounds-sites-j c = omega arith
@@ -54,17 +54,11 @@ offset_bounds-places-j-in-loop-j c = omega arith
 pub bounds-places-j-in-loop-j : goal.bounds-places-j-in-loop-j
 bounds-places-j-in-loop-j c = let o = c.loop-j in omega (arith, length-set c.loop-j.places (2 * c.loop-j.j) c.entries_of-at.result, c.loop-j-test.true, c.requires.3, c.loop-j.invariant.0)
 
-pub overflow_add-j : goal.overflow_add-j
-overflow_add-j c = omega arith
-
-pub loop-j-smaller : goal.loop-j-smaller
-loop-j-smaller c = omega arith
-
 pub loop-j-preserved : goal.loop-j-preserved
-loop-j-preserved c = let a = c.args in let o = c.loop-j in let w = words_of a.objects.now in (length-set (set c.loop-j.places (2 * c.loop-j.j) c.entries_of-at.result) (2 * c.loop-j.j + 1) c.place_of-rule.result ∙ length-set c.loop-j.places (2 * c.loop-j.j) c.entries_of-at.result ∙ c.loop-j.invariant.0, omega (arith, c.loop-j-test.true), sites-more a.text.now a.rows.now a.work.n w a.heads.now a.sites.now c.loop-j.j c.loop-j.places c.entries_of-at.result c.place_of-rule.result (omega (arith, c.loop-j-test.true, c.requires.3, c.loop-j.invariant.0)) c.loop-j.invariant.2 (site-found c.entries_of-at.ensures c.operand_at.ensures c.place_of-rule.ensures))
+loop-j-preserved c = let a = c.args in let o = c.loop-j in let w = words_of a.objects.now in (length-set (set c.loop-j.places (2 * c.loop-j.j) c.entries_of-at.result) (2 * c.loop-j.j + 1) c.place_of-rule.result ∙ length-set c.loop-j.places (2 * c.loop-j.j) c.entries_of-at.result ∙ c.loop-j.invariant.0, sites-more a.text.now a.rows.now a.work.n w a.heads.now a.sites.now c.loop-j.j c.loop-j.places c.entries_of-at.result c.place_of-rule.result (omega (arith, c.loop-j-test.true, c.requires.3, c.loop-j.invariant.0)) c.loop-j.invariant.1 (site-found c.entries_of-at.ensures c.operand_at.ensures c.place_of-rule.ensures))
 
 pub shape_of-places : goal.shape_of-places
 shape_of-places c = c.loop-j.invariant.0
 
 pub returns : goal.returns
-returns c = λ i h. c.loop-j.invariant.2 i (omega (arith, h, c.loop-j-test.false))
+returns c = λ i h. c.loop-j.invariant.1 i (omega (arith, h, c.loop-j-test.false))

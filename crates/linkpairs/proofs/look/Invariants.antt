@@ -1,7 +1,6 @@
 -- `linkpairs::look` meets its contract: the pairs passed are others.
 use mathlib.Core.List.{List}
 use mathlib.Core.Path.{◌≡◌}
-use Prim.Native.Nat.{◌-◌, ◌≤◌}
 use lib.ListN.{length}
 use Rattle.linkpairs.proofs.Looking.{Looking}
 use Rattle.linkpairs.specs.Standing.{PairAt, Stand}
@@ -10,7 +9,4 @@ use Rattle.names.specs.Uses.{Use}
 use Rattle.linkpairs.proofs.look.Given as goal
 
 abbrev pub invariant-loop-i : goal.invariant-loop-i
-invariant-loop-i l = (l.i ≤ l.count) × ((us : List Use) (u : Use) → l.count ≡ length us → Stand (words_of l.objects) l.sites 0 us → PairAt (words_of l.objects) l.p u → Looking (words_of l.objects) l.sites us u l.count l.i)
-
-abbrev pub decreases-loop-i : goal.decreases-loop-i
-decreases-loop-i l = l.count - l.i
+invariant-loop-i l = (us : List Use) (u : Use) → l.count ≡ length us → Stand (words_of l.objects) l.sites 0 us → PairAt (words_of l.objects) l.p u → Looking (words_of l.objects) l.sites us u l.count l.i

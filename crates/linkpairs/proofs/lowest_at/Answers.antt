@@ -7,8 +7,16 @@ use Rattle.linkpairs.proofs.Looking.{lowest-there, lowest-none}
 use Rattle.linkpairs.specs.Gather.{index_of}
 use Rattle.linkpairs.proofs.lowest_at.Goals as goal
 
-pub returns-then-i-count : goal.returns-then-i-count
-returns-then-i-count c = λ names own after us u h x. let a = c.args in let e = c.look-i.ensures.is us u h.as_many h.stand x in let m = h.as_many in let z : 0 + index_of u us ≡ c.look-i.result = omega (arith, e) in ap (λ (i : ℕ). get_or a.lowest.now i 0) (sym z) ∙ lowest-there a.lowest.now names u us 0 own after h.numbered (omega (arith, e, m))
+pub returns-in-Some : goal.returns-in-Some
+returns-in-Some c = λ names own after us u h x.
+    let a = c.args in
+    let e = c.in-Some.ensures.is us u h.as_many h.stand x in
+    let m = h.as_many in
+    let z : 0 + index_of u us ≡ c.in-Some.i = omega (arith, e) in
+    ap (λ (i : ℕ). get_or a.lowest.now i 0) (sym z) ∙ lowest-there a.lowest.now names u us 0 own after h.numbered (omega (arith, e, m, c.in-Some.ensures.low))
 
-pub returns : goal.returns
-returns c = λ names own after us u h x. let e = c.look-i.ensures.is us u h.as_many h.stand x in let m = h.as_many in sym (lowest-none names u us own (omega (arith, e, m)))
+pub returns-in-None : goal.returns-in-None
+returns-in-None c = λ names own after us u h x.
+    let e = c.in-None.ensures.is us u h.as_many h.stand x in
+    let m = h.as_many in
+    sym (lowest-none names u us own (omega (arith, e, m)))

@@ -8,9 +8,6 @@ use Rattle.linkpairs.specs.Places.{RulesMade}
 use Rattle.linkpairs.proofs.make.Given as goal
 
 abbrev pub invariant-loop-j : goal.invariant-loop-j
-invariant-loop-j l = (l.j ≤ l.work.count) × (l.made.rules < 65536) × (l.made.count ≤ length l.cells + 1) × (length l.cells ≡ length l.initial.cells) × (length l.starts ≡ 128) × (length l.sorts ≡ 128)
+invariant-loop-j l = (l.made.rules < 65536) × (l.made.count ≤ length l.cells + 1) × (length l.cells ≡ length l.initial.cells) × (length l.starts ≡ 128) × (length l.sorts ≡ 128)
     × ((cs' starts' sorts' : List ℕ) (r : Made) → RulesMade l.text l.rows l.work.n l.places l.j (l.work.count - l.j) l.made.rules l.cells l.made.count l.starts l.sorts cs' starts' sorts' r
     → RulesMade l.text l.rows l.work.n l.places 0 l.work.count l.initial.made.rules l.initial.cells l.initial.made.count l.initial.starts l.initial.sorts cs' starts' sorts' r)
-
-abbrev pub decreases-loop-j : goal.decreases-loop-j
-decreases-loop-j l = l.work.count - l.j

@@ -3,5 +3,5 @@ use native.Mathlib.Omega.{arith}
 use Rattle.lister.proofs.Steps.{counted-most}
 use Rattle.lister.proofs.count_rest.Goals as goal
 
-pub loop-left-preserved : goal.loop-left-preserved
-loop-left-preserved g c = (omega arith, omega (arith, counted-most c.in_ok-piece.ensures))
+pub loop-read-preserved : goal.loop-read-preserved
+loop-read-preserved g c = (omega arith, omega (arith, c.loop-read-test.true, counted-most c.in_ok-piece.ensures))

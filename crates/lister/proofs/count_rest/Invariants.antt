@@ -5,8 +5,5 @@ use lib.ListN.{length}
 use Rattle.lister.specs.Prints.{most}
 use Rattle.lister.proofs.count_rest.Given as goal
 
-abbrev pub invariant-loop-left : goal.invariant-loop-left
-invariant-loop-left g l = (65536 ≡ length l.buf) × (l.feeds + 65536 * l.left ≤ most)
-
-abbrev pub decreases-loop-left : goal.decreases-loop-left
-decreases-loop-left g l = l.left
+abbrev pub invariant-loop-read : goal.invariant-loop-read
+invariant-loop-read g l = (65536 ≡ length l.buf) × (l.feeds ≤ 65536 * l.read)

@@ -12,6 +12,6 @@ returns c =
     let d = c.put_bytes-d.ensures in
     let e = c.put_decimal-e.ensures in
     let f = c.put_byte.ensures in
-    let n = rw c.wide.ensures.0 at b.puts in
+    let n = rw c.from.ensures at b.puts in
     let p = puts_then (puts_then (puts_then (puts_then a n) d) e.puts) f in
     listed p (omega (arith, a.next, b.upper_bound, d.next, e.upper_bound, f.next))

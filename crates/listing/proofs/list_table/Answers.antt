@@ -10,7 +10,7 @@ pub returns : goal.returns
 unfolding table_listing
 returns c =
     let a = c.args in
-    let n = c.least-n.result in
+    let n = c.min-n.result in
     let h = c.put_heading-a.ensures in
     let q = c.put_figure-b.ensures in
     let w = c.put_words.ensures in

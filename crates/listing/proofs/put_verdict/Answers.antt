@@ -8,7 +8,7 @@ unfolding verdict_end
 returns-then-finishing c =
     let p = c.put_bytes.ensures in record { puts = rw c.if-finishing.true p; upper_bound = omega (arith, p.next) }
 
-pub returns : goal.returns
+pub returns-else-finishing : goal.returns-else-finishing
 unfolding verdict_end
-returns c =
-    let p = c.put_bytes-2.ensures in record { puts = rw c.if-finishing.false p; upper_bound = omega (arith, p.next) }
+returns-else-finishing c =
+    let p = c.put_bytes-else-finishing.ensures in record { puts = rw c.if-finishing.false p; upper_bound = omega (arith, p.next) }

@@ -1,10 +1,8 @@
 -- `loader::are_records` meets its contract.
+use Prim.Native.Nat.{◌+◌, ◌*◌, ◌-◌}
 use Rattle.machine.specs.Bytes.{words_of}
 use Rattle.loader.specs.Records.{Read}
 use Rattle.loader.proofs.are_records.Given as goal
 
-abbrev pub invariant-loop-left : goal.invariant-loop-left
-invariant-loop-left l = Read (words_of l.file) l.n l.p l.left
-
-abbrev pub decreases-loop-left : goal.decreases-loop-left
-decreases-loop-left l = l.left
+abbrev pub invariant-loop-k : goal.invariant-loop-k
+invariant-loop-k l = Read (words_of l.file) l.n (4 + 258 * l.k) (l.n - 256 * l.k)

@@ -1,30 +1,19 @@
 -- `loader::full_record` meets its contract.
-use mathlib.Core.Path.{refl, ◌∙◌}
-use native.Mathlib.Omega.{arith}
+use borrow.Author.Tests.{eqb-true, eqb-false, ne_eqb}
+use mathlib.Core.Path.{refl, sym, ◌∙◌}
+use Rattle.base.specs.Bools.{never}
 use Rattle.loader.proofs.Filing.{full-mark, full-count, full-there}
 use Rattle.loader.proofs.full_record.Goals as goal
+use Rattle.loader.proofs.full_record.Goals.{then-word-eq-TABLE_MARK, else-word-eq-TABLE_MARK}
 
--- `loader::full_record` meets its contract.
-pub word-requires : goal.word-requires
-word-requires c = tt
+pub returns-then-from-eq-RECORD_WORDS : goal.returns-then-from-eq-RECORD_WORDS
+returns-then-from-eq-RECORD_WORDS c = elim c.if-word-eq-TABLE_MARK.branch [
+  | then-word-eq-TABLE_MARK w ↦ full-there c.args.file.now c.args.p c.word.result w.from.result c.args.total c.word.ensures (w.from.ensures ∙ w.word-then-word-eq-TABLE_MARK.ensures) c.requires.0 w.if-word-eq-TABLE_MARK.true (eqb-true _ _ (sym w.value-is ∙ c.if-from-eq-RECORD_WORDS.true))
+  | else-word-eq-TABLE_MARK w ↦ never (sym (ne_eqb _ _ w.if-word-eq-TABLE_MARK.false) ∙ sym w.value-is ∙ c.if-from-eq-RECORD_WORDS.true)
+]
 
-pub returns-then-word-ne-TABLE_MARK : goal.returns-then-word-ne-TABLE_MARK
-returns-then-word-ne-TABLE_MARK c = full-mark c.args.file.now c.args.p c.word.result _ c.args.total c.word.ensures refl c.requires.0 c.if-word-ne-TABLE_MARK.true
-
-pub overflow_add-p : goal.overflow_add-p
-overflow_add-p c = omega (arith, c.requires.1)
-
-pub word-requires-2 : goal.word-requires-2
-word-requires-2 c = tt
-
-pub wide-requires : goal.wide-requires
-wide-requires c = tt
-
-pub returns-then-wide-ne-RECORD_WORDS : goal.returns-then-wide-ne-RECORD_WORDS
-returns-then-wide-ne-RECORD_WORDS c = full-count c.args.file.now c.args.p c.word.result c.wide.result c.args.total c.word.ensures (c.wide.ensures.0 ∙ c.word-2.ensures) c.requires.0 c.if-word-ne-TABLE_MARK.false c.if-wide-ne-RECORD_WORDS.true
-
-pub overflow_add-result : goal.overflow_add-result
-overflow_add-result c = omega (arith, c.requires.1)
-
-pub returns : goal.returns
-returns c = full-there c.args.file.now c.args.p c.word.result c.wide.result c.args.total c.word.ensures (c.wide.ensures.0 ∙ c.word-2.ensures) c.requires.0 c.if-word-ne-TABLE_MARK.false c.if-wide-ne-RECORD_WORDS.false
+pub returns-else-from-eq-RECORD_WORDS : goal.returns-else-from-eq-RECORD_WORDS
+returns-else-from-eq-RECORD_WORDS c = elim c.if-word-eq-TABLE_MARK.branch [
+  | then-word-eq-TABLE_MARK w ↦ c.if-from-eq-RECORD_WORDS.false ∙ full-count c.args.file.now c.args.p c.word.result w.from.result c.args.total c.word.ensures (w.from.ensures ∙ w.word-then-word-eq-TABLE_MARK.ensures) c.requires.0 w.if-word-eq-TABLE_MARK.true (eqb-false _ _ (sym w.value-is ∙ c.if-from-eq-RECORD_WORDS.false))
+  | else-word-eq-TABLE_MARK w ↦ w.value-is ∙ ne_eqb _ _ w.if-word-eq-TABLE_MARK.false ∙ full-mark c.args.file.now c.args.p c.word.result _ c.args.total c.word.ensures refl c.requires.0 w.if-word-eq-TABLE_MARK.false
+]

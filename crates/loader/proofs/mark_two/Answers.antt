@@ -1,9 +1,10 @@
-use borrow.Author.Tests.{not-true, not-false}
+use mathlib.Core.Path.{refl}
+use Rattle.loader.proofs.Laws.{some-worked, none-worked, none-marked, worked, pass-on}
 use Rattle.loader.proofs.Visits.{two-stop, two-on}
 use Rattle.loader.proofs.mark_two.Goals as goal
 
-pub returns-then-not-r : goal.returns-then-not-r
-returns-then-not-r c = two-stop _ _ _ _ _ _ c.mark-r.ensures (not-true _ c.if-not-r.true)
+pub returns-in_err-at : goal.returns-in_err-at
+returns-in_err-at c = none-marked c.from_residual.ensures (two-stop _ _ _ _ _ _ (none-worked c.in_err-at.was c.mark.ensures) refl)
 
 pub returns : goal.returns
-returns c = two-on _ _ _ _ _ _ c.mark-r.ensures (not-false _ c.if-not-r.false) c.mark.ensures
+returns c = pass-on c.mark-2.ensures (two-on _ _ _ _ _ _ (some-worked c.in_ok-at.was c.mark.ensures) refl (worked c.mark-2.ensures))

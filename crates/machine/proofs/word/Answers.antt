@@ -30,7 +30,7 @@ pub returns-then-i-count_words : goal.returns-then-i-count_words
 unfolding word_at count
 returns-then-i-count_words c =
     let a = c.args in
-    omega (arith, get_d-words_of a.s.now a.i (omega arith))
+    omega (arith, c.from_be_bytes.ensures, get_d-words_of a.s.now a.i (omega arith))
 
 pub returns-else-i-count_words : goal.returns-else-i-count_words
 unfolding count

@@ -1,12 +1,9 @@
 -- `maker::lowest` meets its contract.
-use native.Mathlib.Omega.{arith}
-use Rattle.maker.proofs.Holding.{lowest-there, lowest-none}
+use mathlib.Core.Path.{ap, ◌∙◌}
+use Prim.Native.Nat.{ℕ}
+use Rattle.std.specs.Prelude.{Option, unwrap_or}
+use Rattle.maker.proofs.Holding.{lowest-found}
 use Rattle.maker.proofs.lowest.Goals as goal
 
--- src/lib.rt:214:9
-pub returns-then-v-lt-NONE : goal.returns-then-v-lt-NONE
-returns-then-v-lt-NONE c = record { same = lowest-there _ _ _ c.look_pair-v.ensures c.if-v-lt-NONE.true; low = c.if-v-lt-NONE.true }
-
--- src/lib.rt:208:1
-pub returns : goal.returns
-returns c = record { same = lowest-none _ _ _ c.look_pair-v.ensures c.if-v-lt-NONE.false; low = omega arith }
+pub returns-clause-same : goal.returns-clause-same
+returns-clause-same c = c.unwrap_or.ensures ∙ (ap (λ (v : Option ℕ). unwrap_or v 0) c.look_pair.ensures.same ∙ lowest-found c.args.rows.now c.args.section c.args.operand)

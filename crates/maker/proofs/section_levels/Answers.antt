@@ -1,36 +1,43 @@
 -- `maker::section_levels` meets its contract.
 use native.Mathlib.Omega.{arith}
-use Rattle.maker.proofs.Ranking.{levels-first, levels-more, levels-end}
+use mathlib.Core.Bool.{◌||◌}
+use mathlib.Core.Path.{◌≡◌, refl, ap}
+use lib.Dec.{ltb}
+use Rattle.std.specs.Prelude.{Option}
+use Rattle.maker.specs.Ranks.{rank_or}
+use Rattle.maker.specs.declared.Rank.{Rank}
+use Rattle.maker.proofs.Ranking.{levels-first, levels-more, levels-end, rank-above, rank-none, bound-zero}
+use Rattle.maker.proofs.section_levels.Goals.{then-levels, else-levels}
 use Rattle.maker.proofs.section_levels.Goals as goal
 
--- src/lib.rt:169:9
-pub next_level-l-requires : goal.next_level-l-requires
-next_level-l-requires c = (c.requires.0, c.requires.1, omega arith)
+pub loop-next-init : goal.loop-next-init
+loop-next-init c = ((rank-above 0 _ (omega arith) c.next_level-next.ensures.bound).0, c.next_level-next.ensures.bound, levels-first c.next_level-next.ensures.done)
 
--- src/lib.rt:172:5
-pub loop-l-init : goal.loop-l-init
-loop-l-init c = (c.next_level-l.ensures.bound.higher, c.next_level-l.ensures.bound.most, levels-first c.next_level-l.ensures.done)
+pub overflow_add-levels : goal.overflow_add-levels
+overflow_add-levels c = omega (arith, c.loop-next.invariant.0, (rank-above 0 _ (omega arith) c.loop-next.invariant.1).1)
 
--- src/lib.rt:173:9
-pub either-crowded-requires : goal.either-crowded-requires
-either-crowded-requires c = tt
+pub next_level-next-requires-in-Some : goal.next_level-next-requires-in-Some
+next_level-next-requires-in-Some c = (c.requires.0, c.requires.1, (rw c.in-Some.is at c.loop-next.invariant.1).1)
 
--- src/lib.rt:174:9
-pub overflow_add-k : goal.overflow_add-k
-overflow_add-k c = omega (arith, c.loop-l.invariant.0, c.loop-l.invariant.1)
+pub loop-next-smaller : goal.loop-next-smaller
+loop-next-smaller c =
+    let here = ap (λ (o : Option Rank). (rank_or o).level) c.in-Some.is in
+    let low = (rw c.in-Some.is at c.loop-next.invariant.1).1 in
+    let r = rank-above _ _ low c.next_level-next-in-Some.ensures.bound in
+    omega (arith, here, r.0, r.1)
 
--- src/lib.rt:175:9
-pub next_level-l-requires-in-loop-l : goal.next_level-l-requires-in-loop-l
-next_level-l-requires-in-loop-l c = (c.requires.0, c.requires.1, omega arith)
+pub loop-next-preserved : goal.loop-next-preserved
+loop-next-preserved c =
+    let here = ap (λ (o : Option Rank). (rank_or o).level) c.in-Some.is in
+    let low = (rw c.in-Some.is at c.loop-next.invariant.1).1 in
+    let r = rank-above _ _ low c.next_level-next-in-Some.ensures.bound in
+    let crowd : c.if-levels.levels ≡ (c.loop-next.levels.crowded || ltb 64 c.in-Some.rank.count) = elim c.if-levels.branch [ then-levels w ↦ rw (w.levels-is, w.if-levels.true) refl | else-levels w ↦ rw (w.levels-is, w.if-levels.false) refl ] in (
+      omega (arith, here, r.0, c.loop-next.invariant.0),
+      bound-zero _ _ c.next_level-next-in-Some.ensures.bound,
+      levels-more (rw c.in-Some.is at c.loop-next.invariant.2) (omega (arith, low)) c.next_level-next-in-Some.ensures.done crowd,
+    )
 
--- src/lib.rt:172:5
-pub loop-l-smaller : goal.loop-l-smaller
-loop-l-smaller c = omega (arith, c.next_level-l-in-loop-l.ensures.bound.higher, c.next_level-l-in-loop-l.ensures.bound.most)
-
--- src/lib.rt:172:5
-pub loop-l-preserved : goal.loop-l-preserved
-loop-l-preserved c = (omega (arith, c.next_level-l-in-loop-l.ensures.bound.higher, c.loop-l.invariant.0), c.next_level-l-in-loop-l.ensures.bound.most, levels-more c.loop-l.invariant.2 (omega arith) c.next_level-l-in-loop-l.ensures.done c.either-crowded.ensures)
-
--- src/lib.rt:165:1
 pub returns : goal.returns
-returns c = levels-end c.loop-l.invariant.2 (omega arith) (omega arith)
+returns c =
+    let none = rank-none _ c.in_default.is in
+    levels-end c.loop-next.invariant.2 none (omega (arith, c.loop-next.invariant.0, none))

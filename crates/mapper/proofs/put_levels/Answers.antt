@@ -16,14 +16,6 @@ bounds-places-i c = omega (arith, c.requires.2, c.loop-i-test.true)
 pub put_row-requires : goal.put_row-requires
 put_row-requires c = omega (arith, c.requires.3, c.loop-i-test.true, c.loop-i.invariant.2)
 
--- src/lib.rt:82:9
-pub overflow_add-i : goal.overflow_add-i
-overflow_add-i c = omega (arith, c.requires.1, c.loop-i-test.true)
-
--- src/lib.rt:80:5
-pub loop-i-smaller : goal.loop-i-smaller
-loop-i-smaller c = omega (arith, c.loop-i-test.true)
-
 -- src/lib.rt:80:5
 pub loop-i-preserved : goal.loop-i-preserved
 loop-i-preserved c = (omega (arith, c.loop-i.invariant.0), omega (arith, c.loop-i-test.true), search rules ∙ c.loop-i.invariant.2, levels-step _ _ _ _ _ c.loop-i.invariant.0 c.loop-i.invariant.3 c.put_row.ensures)

@@ -30,14 +30,6 @@ bounds-places-k c = omega (arith, c.requires.1, c.loop-k-test.true)
 pub put_row-requires : goal.put_row-requires
 put_row-requires c = omega (arith, c.requires.2, c.loop-k-test.true, rows-size c.args.text.now c.args.rows.now c.args.places.now c.args.first c.loop-k.k c.args.out.now (omega (arith, c.requires.2, c.loop-k-test.true)) c.loop-k.invariant.1)
 
--- src/lib.rt:86:9
-pub overflow_add-k : goal.overflow_add-k
-overflow_add-k c = omega (arith, c.requires.0.few, c.loop-k-test.true)
-
--- src/lib.rt:75:5
-pub loop-k-smaller : goal.loop-k-smaller
-loop-k-smaller c = omega (arith, c.loop-k-test.true)
-
 -- src/lib.rt:75:5
 pub loop-k-preserved : goal.loop-k-preserved
 loop-k-preserved c = (omega (arith, c.loop-k-test.true), rows-put c.args.text.now c.args.rows.now c.args.places.now c.args.first c.loop-k.k c.args.out.now (row-held _ _ _ c.number-start.ensures.0 c.number-len.ensures.0 c.part_len.ensures) (omega (arith, c.requires.2, c.loop-k-test.true)) c.loop-k.invariant.1 c.put_row.ensures)

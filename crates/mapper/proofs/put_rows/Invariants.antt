@@ -7,6 +7,3 @@ use Rattle.mapper.proofs.put_rows.Given as goal
 
 abbrev pub invariant-loop-k : goal.invariant-loop-k
 invariant-loop-k l = (l.k ≤ l.rules) × (l.out ≡ over (bytes_of (rows_words (held_rows l.text l.rows l.places l.first 0 l.k))) l.initial.out)
-
-abbrev pub decreases-loop-k : goal.decreases-loop-k
-decreases-loop-k l = l.rules - l.k

@@ -1,11 +1,11 @@
-use Rattle.meter.proofs.Words.{end-next, end-last}
 use borrow.Author.Rules.{rules}
+use mathlib.Core.Path.{◌≡◌, ◌∙◌}
+use Prim.Native.Nat.{◌+◌}
+use lib.ListN.{get_or}
+use Rattle.meter.proofs.Words.{end-read}
 use Rattle.meter.proofs.end_of.Goals as goal
 
--- src/lib.rt:97:1
-pub returns-then-r-starts : goal.returns-then-r-starts
-returns-then-r-starts c = end-next _ _ _ (search rules)
-
--- src/lib.rt:97:1
-pub returns-else-r-starts : goal.returns-else-r-starts
-returns-else-r-starts c = end-last _ _ _ (search rules)
+pub returns : goal.returns
+returns c =
+    let e : c.unwrap_or.result ≡ get_or c.args.starts.now (c.args.r + 1) (c.args.size + 1) = search rules in
+    e ∙ end-read c.args.size c.args.r c.args.starts.now

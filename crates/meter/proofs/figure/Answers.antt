@@ -1,3 +1,7 @@
+use mathlib.Core.Path.{ap, ◌∙◌}
+use Prim.Native.Nat.{ℕ}
+use lib.ListN.{replicate}
+use Rattle.meter.proofs.Store.{cleared-numbers}
 use Rattle.meter.proofs.Figures.{cleared-kept, second-kept, found}
 use Rattle.meter.proofs.Store.{called-all, called-none}
 use native.Mathlib.Omega.{arith}
@@ -5,10 +9,10 @@ use borrow.Author.Rules.{rules}
 use Rattle.meter.proofs.figure.Goals as goal
 
 pub begin-requires : goal.begin-requires
-begin-requires c = (cleared-kept c.requires.0 (called-none _ (λ e. omega arith)) c.clear.ensures, search rules)
+begin-requires c = (cleared-kept c.requires.0 (called-none _ (λ e. omega arith)) (cleared-numbers _ (c.fill.ensures.after (λ y e. e) ∙ ap (λ (n : ℕ). replicate n 0) c.requires.1)), search rules)
 
 pub begin-requires-2 : goal.begin-requires-2
-begin-requires-2 c = (second-kept (called-none _ (λ e. omega arith)) (called-all _ (search rules)) c.clear-2.ensures c.settle.ensures, search rules)
+begin-requires-2 c = (second-kept (called-none _ (λ e. omega arith)) (called-all _ (search rules)) (cleared-numbers _ (c.fill-2.ensures.after (λ y e. e) ∙ ap (λ (n : ℕ). replicate n 0) c.requires.2)) c.settle.ensures, search rules)
 
 pub greatest-requires : goal.greatest-requires
 greatest-requires c = omega (arith, c.rows-3-1.given, c.rows-2-1.given, c.rows-1.given, c.requires.2)

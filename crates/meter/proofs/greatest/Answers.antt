@@ -1,20 +1,14 @@
-use Rattle.meter.proofs.Store.{length-numbers}
-use Rattle.meter.proofs.Figures.{greatest-first, greatest-same, greatest-more, greatest-all}
+use borrow.Author.Rules.{rules}
 use native.Mathlib.Omega.{arith}
+use Rattle.meter.proofs.Figures.{greatest-first, greatest-max, greatest-all}
+use Rattle.meter.proofs.Store.{length-numbers}
 use Rattle.meter.proofs.greatest.Goals as goal
-use Rattle.meter.proofs.greatest.Goals.{then-most-v, else-most-v}
 
--- src/lib.rt:482:5
 pub loop-i-init : goal.loop-i-init
 loop-i-init c = greatest-first _ _
 
--- src/lib.rt:482:5
 pub loop-i-preserved : goal.loop-i-preserved
-loop-i-preserved c = elim c.if-most-v.branch [
-  | then-most-v w ↦ greatest-more c.loop-i.invariant c.number-v.ensures (omega (arith, length-numbers c.args.rows.now)) w.if-most-v.true w.most-is
-  | else-most-v w ↦ greatest-same c.loop-i.invariant c.number-v.ensures (omega (arith, length-numbers c.args.rows.now)) w.if-most-v.false w.most-is
-]
+loop-i-preserved c = greatest-max c.loop-i.invariant c.number.ensures (omega (arith, c.loop-i-test.true, length-numbers c.args.rows.now)) (search rules)
 
--- src/lib.rt:477:1
 pub returns : goal.returns
-returns c = greatest-all c.loop-i.invariant (omega (arith, length-numbers c.args.rows.now))
+returns c = greatest-all c.loop-i.invariant (omega (arith, c.loop-i-test.false, length-numbers c.args.rows.now))

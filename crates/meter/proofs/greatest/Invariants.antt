@@ -1,10 +1,6 @@
 use Rattle.meter.specs.Store.{numbers_of}
 use Rattle.meter.proofs.Figures.{GreatestUpto}
-use Prim.Native.Nat.{◌-◌}
 use Rattle.meter.proofs.greatest.Given as goal
 
 abbrev pub invariant-loop-i : goal.invariant-loop-i
 invariant-loop-i l = GreatestUpto (numbers_of l.rows) l.from l.i l.most
-
-abbrev pub decreases-loop-i : goal.decreases-loop-i
-decreases-loop-i l = 4353 - l.i

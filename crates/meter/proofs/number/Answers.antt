@@ -1,5 +1,4 @@
 use mathlib.Core.Path.{sym, ◌∙◌}
-use native.Mathlib.Omega.{arith}
 use Rattle.meter.proofs.Store.{number_past, number-cap, number_word}
 use Rattle.meter.proofs.number.Goals as goal
 
@@ -11,10 +10,6 @@ returns-then-i-ge-HALF c = sym (number_past _ _ c.if-i-ge-HALF.true)
 pub returns-then-at_cap : goal.returns-then-at_cap
 returns-then-at_cap c = sym (number-cap _ _ c.if-i-ge-HALF.false (sym c.at_cap.ensures ∙ c.if-at_cap.true))
 
--- src/lib.rt:76:5
-pub overflow_cast-result : goal.overflow_cast-result
-overflow_cast-result c = omega (arith, c.shared_slice_known-2-1.given c.args.i)
-
 -- src/lib.rt:66:1
 pub returns : goal.returns
-returns c = sym (number_word _ _ c.if-i-ge-HALF.false (sym c.at_cap.ensures ∙ c.if-at_cap.false))
+returns c = c.from.ensures ∙ sym (number_word _ _ c.if-i-ge-HALF.false (sym c.at_cap.ensures ∙ c.if-at_cap.false))

@@ -27,4 +27,4 @@ pub raise_behind-b-requires : goal.raise_behind-b-requires
 raise_behind-b-requires c = ((call-first c.requires.0 c.requires.1 c.requires.2 c.rule_at-q.ensures c.called_number.ensures c.mark_of.ensures refl c.raise_two-a.ensures).kept, called-here c.requires.0 c.requires.1 c.requires.2 c.rule_at-q.ensures, search rules)
 
 pub returns : goal.returns
-returns c = called-all c.requires.0 c.rule_at-q.ensures (call-first c.requires.0 c.requires.1 c.requires.2 c.rule_at-q.ensures c.called_number.ensures c.mark_of.ensures refl c.raise_two-a.ensures) c.raise_behind-b.ensures c.either.ensures
+returns c = called-all c.requires.0 c.rule_at-q.ensures (call-first c.requires.0 c.requires.1 c.requires.2 c.rule_at-q.ensures c.called_number.ensures c.mark_of.ensures refl c.raise_two-a.ensures) c.raise_behind-b.ensures refl

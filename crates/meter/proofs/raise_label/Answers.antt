@@ -29,4 +29,4 @@ returns-then-is_below c = label-raised c.word_at-then-is_below.ensures.0 c.way_o
 
 -- src/lib.rt:223:1
 pub returns : goal.returns
-returns c = label-enough c.word_at.ensures.0 c.back-beside.ensures c.is_below.ensures c.if-is_below.false
+returns c = label-enough c.word_at.ensures.0 c.saturating_sub-beside.ensures c.is_below.ensures c.if-is_below.false

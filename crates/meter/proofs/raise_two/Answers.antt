@@ -3,4 +3,4 @@ use Rattle.meter.proofs.raise_two.Goals as goal
 
 -- src/lib.rt:136:1
 pub returns : goal.returns
-returns c = rw c.either.ensures (two c.raise-a.ensures c.raise-b.ensures)
+returns c = two c.raise-a.ensures c.raise-b.ensures

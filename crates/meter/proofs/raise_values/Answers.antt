@@ -1,3 +1,4 @@
+use mathlib.Core.Path.{refl}
 use Rattle.meter.proofs.Sweeps.{values-first, values-next, values-past, values-all}
 use Rattle.meter.proofs.Laws.{start-end, is-end}
 use borrow.Author.Rules.{rules}
@@ -36,7 +37,7 @@ loop-p-smaller c = omega (arith, c.next_called-p.ensures.0, c.next_called-p.ensu
 
 -- src/lib.rt:284:5
 pub loop-p-preserved : goal.loop-p-preserved
-loop-p-preserved c = (values-past (values-next c.loop-p.invariant.0 (search rules) c.raise_value-more.ensures c.either-changed.ensures) c.next_called-p.ensures.0 c.next_called-p.ensures.1 c.next_called-p.ensures.2, search rules)
+loop-p-preserved c = (values-past (values-next c.loop-p.invariant.0 (search rules) c.raise_value-more.ensures refl) c.next_called-p.ensures.0 c.next_called-p.ensures.1 c.next_called-p.ensures.2, search rules)
 
 -- src/lib.rt:269:1
 pub returns : goal.returns

@@ -1,3 +1,4 @@
+use mathlib.Core.Path.{refl}
 use Rattle.meter.proofs.Visits.{ways-first, ways_next, ways-none, ways-all}
 use Rattle.machine.proofs.Bytes.{length-table_of}
 use borrow.Author.Rules.{rules}
@@ -20,17 +21,9 @@ loop-i-init c = (ways-first (length-table_of c.args.table.now) c.requires.0 c.wo
 pub raise_label-more-requires : goal.raise_label-more-requires
 raise_label-more-requires c = (c.requires.0, omega (arith, c.loop-i.invariant.0.fits), c.loop-i.invariant.1)
 
--- src/lib.rt:250:9
-pub overflow_add-i : goal.overflow_add-i
-overflow_add-i c = omega arith
-
--- src/lib.rt:247:5
-pub loop-i-smaller : goal.loop-i-smaller
-loop-i-smaller c = omega arith
-
 -- src/lib.rt:247:5
 pub loop-i-preserved : goal.loop-i-preserved
-loop-i-preserved c = (ways_next c.loop-i.invariant.0 (search rules) c.raise_label-more.ensures c.either-changed.ensures, search rules)
+loop-i-preserved c = (ways_next c.loop-i.invariant.0 (search rules) c.raise_label-more.ensures refl, search rules)
 
 -- src/lib.rt:252:34
 pub overflow_add-c : goal.overflow_add-c
@@ -50,4 +43,4 @@ raise-last-requires c = c.loop-i.invariant.1
 
 -- src/lib.rt:237:1
 pub returns : goal.returns
-returns c = ways-all c.loop-i.invariant.0 (search rules) c.raise-last.ensures c.either.ensures
+returns c = ways-all c.loop-i.invariant.0 (search rules) c.raise-last.ensures refl

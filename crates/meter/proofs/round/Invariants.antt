@@ -9,6 +9,3 @@ use Rattle.meter.proofs.round.Given as goal
 
 abbrev pub invariant-loop-r : goal.invariant-loop-r
 invariant-loop-r l = (l.r ≤ length l.starts) × (length l.rows ≡ 4490) × Steps (table_of l.table) l.starts (AskedFrom (table_of l.table) l.starts (called_numbers l.called) (length l.starts)) (called_numbers l.called) (numbers_of l.initial.rows) (numbers_of l.rows) l.changed
-
-abbrev pub decreases-loop-r : goal.decreases-loop-r
-decreases-loop-r l = l.r

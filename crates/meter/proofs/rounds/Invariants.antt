@@ -1,4 +1,3 @@
--- `meter::rounds` meets its contract.
 use mathlib.Core.Path.{◌≡◌}
 use lib.ListN.{length}
 use Rattle.machine.specs.Bytes.{table_of}
@@ -6,8 +5,5 @@ use Rattle.meter.specs.Steps.{Steps, AskedFrom}
 use Rattle.meter.specs.Store.{numbers_of, called_numbers}
 use Rattle.meter.proofs.rounds.Given as goal
 
-abbrev pub invariant-loop-left : goal.invariant-loop-left
-invariant-loop-left l = (length l.rows ≡ 4490) × Steps (table_of l.table) l.starts (AskedFrom (table_of l.table) l.starts (called_numbers l.called) (length l.starts)) (called_numbers l.called) (numbers_of l.initial.rows) (numbers_of l.rows) l.changed
-
-abbrev pub decreases-loop-left : goal.decreases-loop-left
-decreases-loop-left l = l.left
+abbrev pub invariant-loop : goal.invariant-loop
+invariant-loop l = (length l.rows ≡ 4490) × Steps (table_of l.table) l.starts (AskedFrom (table_of l.table) l.starts (called_numbers l.called) (length l.starts)) (called_numbers l.called) (numbers_of l.initial.rows) (numbers_of l.rows) l.changed

@@ -12,9 +12,6 @@ rounds_if-requires c = (c.loop-changed.invariant.0.kept, c.loop-changed.invarian
 pub sweep-changed-requires : goal.sweep-changed-requires
 sweep-changed-requires c = (c.rounds_if.ensures.kept, search rules)
 
-pub before-early-requires : goal.before-early-requires
-before-early-requires c = tt
-
 pub loop-changed-smaller : goal.loop-changed-smaller
 loop-changed-smaller c = todo-less c.loop-changed-test.true c.rounds_if.ensures c.sweep-changed.ensures
 

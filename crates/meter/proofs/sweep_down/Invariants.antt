@@ -7,6 +7,3 @@ use Rattle.meter.proofs.sweep_down.Given as goal
 
 abbrev pub invariant-loop-r : goal.invariant-loop-r
 invariant-loop-r l = (RulesFrom (table_of l.table) l.starts (called_numbers l.called) l.r (numbers_of l.initial.rows) (numbers_of l.rows) l.changed) × (length l.rows ≡ 4490)
-
-abbrev pub decreases-loop-r : goal.decreases-loop-r
-decreases-loop-r l = l.r

@@ -1,3 +1,4 @@
+use mathlib.Core.Path.{refl}
 use Rattle.meter.proofs.Sweeps.{swept-first, swept-next, swept_all}
 use Rattle.meter.proofs.Laws.{start-end, is-end}
 use borrow.Author.Rules.{rules}
@@ -24,17 +25,9 @@ loop-l-init c = (swept-first c.requires.0 (omega (arith, start-end c.requires.0 
 pub visit-more-requires : goal.visit-more-requires
 visit-more-requires c = (c.loop-l.invariant.0.steps.kept, c.requires.1, record { from = c.loop-l.invariant.0.from; to = omega (arith, c.loop-l.invariant.0.is-end) }, c.loop-l.invariant.1)
 
--- src/lib.rt:403:9
-pub overflow_add-l : goal.overflow_add-l
-overflow_add-l c = omega arith
-
--- src/lib.rt:400:5
-pub loop-l-smaller : goal.loop-l-smaller
-loop-l-smaller c = omega arith
-
 -- src/lib.rt:400:5
 pub loop-l-preserved : goal.loop-l-preserved
-loop-l-preserved c = (swept-next c.loop-l.invariant.0 (search rules) c.visit-more.ensures c.either-changed.ensures, search rules)
+loop-l-preserved c = (swept-next c.loop-l.invariant.0 (search rules) c.visit-more.ensures refl, search rules)
 
 -- src/lib.rt:393:1
 pub returns : goal.returns

@@ -3,11 +3,7 @@ use mathlib.Core.Path.{◌≡◌}
 use lib.ListN.{length}
 use Rattle.meter.proofs.Sweeps.{SweptUpto}
 use Rattle.machine.specs.Bytes.{table_of}
-use Prim.Native.Nat.{◌-◌}
 use Rattle.meter.proofs.sweep_rule.Given as goal
 
 abbrev pub invariant-loop-l : goal.invariant-loop-l
 invariant-loop-l l = (SweptUpto (table_of l.table) l.starts (called_numbers l.called) l.r l.to l.l (numbers_of l.initial.rows) (numbers_of l.rows) l.changed) × (length l.rows ≡ 4490)
-
-abbrev pub decreases-loop-l : goal.decreases-loop-l
-decreases-loop-l l = l.to - l.l

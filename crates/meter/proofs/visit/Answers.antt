@@ -1,8 +1,7 @@
 use Rattle.meter.proofs.Seen.{outside_low, outside_high, here-word, visit-invalid, visit-unreached, visit-made, visit-here}
 use Rattle.meter.proofs.Laws.{rule-small, not-nothing}
-use Rattle.machine.specs.Decode.{decode_one, decode_two}
 use Rattle.loader.proofs.Visits.{decode-none, decode-one, decode-both, decode-short, two-words}
-use mathlib.Core.Path.{sym, ap, ◌∙◌}
+use mathlib.Core.Path.{sym, ◌∙◌}
 use native.Mathlib.Omega.{arith}
 use Rattle.meter.proofs.visit.Goals as goal
 
@@ -25,7 +24,7 @@ pub visit_one-requires : goal.visit_one-requires
 visit_one-requires c = (c.requires.3, rule-small c.requires.0 (visit-here c.requires.0 c.requires.1 c.requires.2 (omega (arith, c.size_of-size.ensures, c.if-size-at.false)) c.number-number.ensures c.if-number-eq0.false), omega (arith, c.size_of-size.ensures, c.if-size-at.false, c.requires.0.shaped.short), (visit-here c.requires.0 c.requires.1 c.requires.2 (omega (arith, c.size_of-size.ensures, c.if-size-at.false)) c.number-number.ensures c.if-number-eq0.false).small)
 
 pub returns-then-k-eq1 : goal.returns-then-k-eq1
-returns-then-k-eq1 c = visit-made c.requires.0 (decode-one _ _ _ (here-word c.args.table.now c.args.at c.if-at-eq0.false (omega (arith, c.size_of-size.ensures, c.if-size-at.false)) c.word-i.ensures) (sym c.instruction_length-k.ensures ∙ c.if-k-eq1.true) ∙ ap decode_one (sym c.wide.ensures.0)) c.number-number.ensures (c.visit_one.ensures.steps c.requires.0 (visit-here c.requires.0 c.requires.1 c.requires.2 (omega (arith, c.size_of-size.ensures, c.if-size-at.false)) c.number-number.ensures c.if-number-eq0.false) (decode-one _ _ _ (here-word c.args.table.now c.args.at c.if-at-eq0.false (omega (arith, c.size_of-size.ensures, c.if-size-at.false)) c.word-i.ensures) (sym c.instruction_length-k.ensures ∙ c.if-k-eq1.true) ∙ ap decode_one (sym c.wide.ensures.0)))
+returns-then-k-eq1 c = visit-made c.requires.0 (decode-one _ _ _ (here-word c.args.table.now c.args.at c.if-at-eq0.false (omega (arith, c.size_of-size.ensures, c.if-size-at.false)) c.word-i.ensures) (sym c.instruction_length-k.ensures ∙ c.if-k-eq1.true)) c.number-number.ensures (c.visit_one.ensures.steps c.requires.0 (visit-here c.requires.0 c.requires.1 c.requires.2 (omega (arith, c.size_of-size.ensures, c.if-size-at.false)) c.number-number.ensures c.if-number-eq0.false) (decode-one _ _ _ (here-word c.args.table.now c.args.at c.if-at-eq0.false (omega (arith, c.size_of-size.ensures, c.if-size-at.false)) c.word-i.ensures) (sym c.instruction_length-k.ensures ∙ c.if-k-eq1.true)))
 
 pub overflow_add-at : goal.overflow_add-at
 overflow_add-at c = omega (arith, c.size_of-size.ensures, c.if-size-at.false, c.requires.0.shaped.short)
@@ -40,7 +39,7 @@ pub word_at-x-requires : goal.word_at-x-requires
 word_at-x-requires c = (omega arith, omega (arith, c.size_of-size.ensures, c.if-size-at-2.false))
 
 pub visit_two-requires : goal.visit_two-requires
-visit_two-requires c = (c.requires.0, (visit-here c.requires.0 c.requires.1 c.requires.2 (omega (arith, c.size_of-size.ensures, c.if-size-at.false)) c.number-number.ensures c.if-number-eq0.false), decode-both _ _ _ _ (here-word c.args.table.now c.args.at c.if-at-eq0.false (omega (arith, c.size_of-size.ensures, c.if-size-at.false)) c.word-i.ensures) (two-words _ _ c.instruction_length-k.ensures c.if-k-eq0.false c.if-k-eq1.false) c.word_at-x.ensures.0 ∙ ap (λ n. decode_two c.args.at n c.word_at-x.result) (sym c.wide-w.ensures.0), c.word_at-x.ensures.1, c.requires.3)
+visit_two-requires c = (c.requires.0, (visit-here c.requires.0 c.requires.1 c.requires.2 (omega (arith, c.size_of-size.ensures, c.if-size-at.false)) c.number-number.ensures c.if-number-eq0.false), decode-both _ _ _ _ (here-word c.args.table.now c.args.at c.if-at-eq0.false (omega (arith, c.size_of-size.ensures, c.if-size-at.false)) c.word-i.ensures) (two-words _ _ c.instruction_length-k.ensures c.if-k-eq0.false c.if-k-eq1.false) c.word_at-x.ensures.0, c.word_at-x.ensures.1, c.requires.3)
 
 pub returns : goal.returns
-returns c = visit-made c.requires.0 (decode-both _ _ _ _ (here-word c.args.table.now c.args.at c.if-at-eq0.false (omega (arith, c.size_of-size.ensures, c.if-size-at.false)) c.word-i.ensures) (two-words _ _ c.instruction_length-k.ensures c.if-k-eq0.false c.if-k-eq1.false) c.word_at-x.ensures.0 ∙ ap (λ n. decode_two c.args.at n c.word_at-x.result) (sym c.wide-w.ensures.0)) c.number-number.ensures c.visit_two.ensures
+returns c = visit-made c.requires.0 (decode-both _ _ _ _ (here-word c.args.table.now c.args.at c.if-at-eq0.false (omega (arith, c.size_of-size.ensures, c.if-size-at.false)) c.word-i.ensures) (two-words _ _ c.instruction_length-k.ensures c.if-k-eq0.false c.if-k-eq1.false) c.word_at-x.ensures.0) c.number-number.ensures c.visit_two.ensures

@@ -1,22 +1,17 @@
-use Rattle.meter.proofs.Visits.{one-return, one_end, one-any, one-update, one-choose}
 use Rattle.meter.proofs.visit_one.Goals as goal
+use Rattle.meter.proofs.Visits.{one-return, one_end, one-any, one-update, one-choose}
 
--- src/lib.rt:177:9
-pub returns-then-i-eq-RETURN : goal.returns-then-i-eq-RETURN
-returns-then-i-eq-RETURN c = one-return c.if-i-eq-RETURN.true c.raise.ensures
+pub returns-in-9 : goal.returns-in-9
+returns-in-9 c = one-return c.in-9.is c.raise.ensures
 
--- src/lib.rt:180:9
-pub returns-then-i-eq-END_CHOICE : goal.returns-then-i-eq-END_CHOICE
-returns-then-i-eq-END_CHOICE c = one_end c.if-i-eq-END_CHOICE.true c.raise-then-i-eq-END_CHOICE.ensures
+pub returns-in-12 : goal.returns-in-12
+returns-in-12 c = one_end c.in-12.is c.raise-in-12.ensures
 
--- src/lib.rt:183:9
-pub returns-then-i-eq-INPUT_ANY : goal.returns-then-i-eq-INPUT_ANY
-returns-then-i-eq-INPUT_ANY c = one-any c.if-i-eq-INPUT_ANY.true c.mark_of.ensures c.raise_two.ensures
+pub returns-in-4 : goal.returns-in-4
+returns-in-4 c = one-any c.in-4.is c.mark_of.ensures c.raise_two.ensures
 
--- src/lib.rt:186:9
-pub returns-then-i-lt-FIRST_CHOOSE : goal.returns-then-i-lt-FIRST_CHOOSE
-returns-then-i-lt-FIRST_CHOOSE c = one-update c.if-i-eq-RETURN.false c.if-i-eq-END_CHOICE.false c.if-i-eq-INPUT_ANY.false c.if-i-lt-FIRST_CHOOSE.true c.raise-then-i-lt-FIRST_CHOOSE.ensures
+pub returns-in_default : goal.returns-in_default
+returns-in_default c = let r = c.in_default.in_default-own.rest in one-update r.0.0.1 r.0.1 r.1 c.if-i-lt-ASK.true c.raise-in_default.ensures
 
--- src/lib.rt:170:1
-pub returns : goal.returns
-returns c = one-choose c.if-i-eq-RETURN.false c.if-i-eq-END_CHOICE.false c.if-i-eq-INPUT_ANY.false c.if-i-lt-FIRST_CHOOSE.false c.raise_two-2.ensures
+pub returns-in_default-2 : goal.returns-in_default-2
+returns-in_default-2 c = let r = c.in_default.in_default-own.rest in one-choose r.0.0.1 r.0.1 r.1 c.if-i-lt-ASK.false c.raise_two-in_default-2.ensures

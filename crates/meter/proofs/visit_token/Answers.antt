@@ -1,3 +1,4 @@
+use mathlib.Core.Path.{refl}
 use Rattle.meter.proofs.Calls.{token-visited}
 use Rattle.machine.proofs.Bytes.{length-table_of}
 use native.Mathlib.Omega.{arith}
@@ -25,4 +26,4 @@ pub overflow_add-here-2 : goal.overflow_add-here-2
 overflow_add-here-2 c = omega (arith, c.requires.3)
 
 pub returns : goal.returns
-returns c = token-visited c.word_at.ensures.0 c.mark_of.ensures c.raise_ways-a.ensures c.raise_two-b.ensures c.either.ensures
+returns c = token-visited c.word_at.ensures.0 c.mark_of.ensures c.raise_ways-a.ensures c.raise_two-b.ensures refl

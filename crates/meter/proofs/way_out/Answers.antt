@@ -42,15 +42,7 @@ word_at-requires-then-word_at-v c = (omega arith, omega arith)
 
 -- src/lib.rt:114:13
 pub returns-then-word_at-v : goal.returns-then-word_at-v
-returns-then-word_at-v c = seek_found c.loop-i.invariant (search rules) c.word_at.ensures.0 c.if-word_at-v.true c.word_at-then-word_at-v.ensures.0 c.back.ensures
-
--- src/lib.rt:116:9
-pub overflow_add-i : goal.overflow_add-i
-overflow_add-i c = omega arith
-
--- src/lib.rt:111:5
-pub loop-i-smaller : goal.loop-i-smaller
-loop-i-smaller c = omega arith
+returns-then-word_at-v c = seek_found c.loop-i.invariant (search rules) c.word_at.ensures.0 c.if-word_at-v.true c.word_at-then-word_at-v.ensures.0 c.saturating_sub.ensures
 
 -- src/lib.rt:111:5
 pub loop-i-preserved : goal.loop-i-preserved

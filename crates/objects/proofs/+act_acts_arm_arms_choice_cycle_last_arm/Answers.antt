@@ -55,7 +55,7 @@ pub acts-loop-here-smaller : goal.acts-loop-here-smaller
 acts-loop-here-smaller t c = let w = c.act-a.ensures.within in let h = w.high (omega arith) in let l = w.low in let q = w.same in let n = w.named (omega arith) in omega (arith, h, l, q)
 
 pub acts-loop-here-preserved : goal.acts-loop-here-preserved
-acts-loop-here-preserved t c = let w = c.act-a.ensures.within in let h = w.high (omega arith) in let l = w.low in let q = w.same in let n = w.named (omega arith) in (omega (arith, h), omega (arith, q), omega (arith, n), acts-more c.loop-here.invariant.3 _ (omega arith) c.number-x.ensures.0 c.if-x-eq-END.false c.ahead-next.ensures.0 c.act-a.ensures (not-false _ c.if-not-a.false) c.both-past.ensures c.either-exits.ensures)
+acts-loop-here-preserved t c = let w = c.act-a.ensures.within in let h = w.high (omega arith) in let l = w.low in let q = w.same in let n = w.named (omega arith) in (omega (arith, h), omega (arith, q), omega (arith, n), acts-more c.loop-here.invariant.3 _ (omega arith) c.number-x.ensures.0 c.if-x-eq-END.false c.ahead-next.ensures.0 c.act-a.ensures (not-false _ c.if-not-a.false) refl refl)
 
 pub acts-returns : goal.acts-returns
 acts-returns t c = acts-over c.loop-here.invariant.3 (omega arith) c.refused.ensures.0 c.refused.ensures.1
@@ -103,7 +103,7 @@ pub arms-loop-here-smaller : goal.arms-loop-here-smaller
 arms-loop-here-smaller t c = let b = (c.labels-l.ensures (words_of c.args.objects.now)).within in let f = b.low in let m = b.same in let j = b.high (omega arith) in let w = c.arm-a.ensures.within in let h = w.high (omega (arith, j)) in let l = w.low in let q = w.same in omega (arith, f, m, h, l, q)
 
 pub arms-loop-here-preserved : goal.arms-loop-here-preserved
-arms-loop-here-preserved t c = let b = (c.labels-l.ensures (words_of c.args.objects.now)).within in let m = b.same in let j = b.high (omega arith) in let i = b.named (omega (arith, c.ahead-next.ensures.3, c.loop-here.invariant.2)) in let w = c.arm-a.ensures.within in let h = w.high (omega (arith, j)) in let q = w.same in let n = w.named (omega (arith, i)) in (omega (arith, h), omega (arith, q, m, c.ahead-next.ensures.2, c.loop-here.invariant.1), omega (arith, n), arms_more c.loop-here.invariant.3 _ (omega arith) c.number-x.ensures.0 c.ahead-next.ensures.0 (omega arith) refl (c.labels-l.ensures _) c.arm-a.ensures (not-false _ c.if-not-a.false) refl c.either-past.ensures c.either-exits.ensures)
+arms-loop-here-preserved t c = let b = (c.labels-l.ensures (words_of c.args.objects.now)).within in let m = b.same in let j = b.high (omega arith) in let i = b.named (omega (arith, c.ahead-next.ensures.3, c.loop-here.invariant.2)) in let w = c.arm-a.ensures.within in let h = w.high (omega (arith, j)) in let q = w.same in let n = w.named (omega (arith, i)) in (omega (arith, h), omega (arith, q, m, c.ahead-next.ensures.2, c.loop-here.invariant.1), omega (arith, n), arms_more c.loop-here.invariant.3 _ (omega arith) c.number-x.ensures.0 c.ahead-next.ensures.0 (omega arith) refl (c.labels-l.ensures _) c.arm-a.ensures (not-false _ c.if-not-a.false) refl refl refl)
 
 pub arms-returns : goal.arms-returns
 arms-returns t c = arms-over c.loop-here.invariant.3 (omega arith) c.refused.ensures.0 c.refused.ensures.1

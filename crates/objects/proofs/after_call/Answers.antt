@@ -10,11 +10,11 @@ returns-then-spot c = name-none c.refused.ensures.0 c.refused.ensures.1 (λ m n 
 pub returns-then-spot-eq0 : goal.returns-then-spot-eq0
 returns-then-spot-eq0 c = name-none c.refused-then-spot-eq0.ensures.0 c.refused-then-spot-eq0.ensures.1 (λ m n cells names x. let k = x.names_count in absurd (omega (arith, k)))
 
-pub returns-then-name-total : goal.returns-then-name-total
-returns-then-name-total c = name-none c.refused-then-name-total.ensures.0 c.refused-then-name-total.ensures.1 (λ m n cells names x. let k = ((leads x).behind _ c.past_name-name.ensures).1 in absurd (omega (arith, k)))
+pub returns-in_default : goal.returns-in_default
+returns-in_default c = name-none c.refused-in_default.ensures.0 c.refused-in_default.ensures.1 (λ m n cells names x. absurd ((leads x).there c.in_default.ensures.ends))
 
 pub returns-then-not-ok : goal.returns-then-not-ok
 returns-then-not-ok c = name-none c.refused-then-not-ok.ensures.0 c.refused-then-not-ok.ensures.1 (λ m n cells names x. c.if-not-ok.true)
 
 pub returns : goal.returns
-returns c = name-some (omega arith) (omega arith) c.if-not-ok.false (rw c.passed.ensures.1 c.past_name-name.ensures) (rw c.passed.ensures.1 (omega arith)) (rw c.passed.ensures.1 refl) (rw c.passed.ensures.1 refl) (rw c.passed.ensures.1 (omega arith)) c.passed.ensures.0 c.passed.ensures.2 c.passed.ensures.3
+returns c = name-some (omega arith) (omega arith) c.if-not-ok.false (rw c.passed.ensures.1 c.in-Some.ensures.ends) (rw c.passed.ensures.1 c.in-Some.ensures.within) (rw c.passed.ensures.1 refl) (rw c.passed.ensures.1 refl) (rw c.passed.ensures.1 (omega arith)) c.passed.ensures.0 c.passed.ensures.2 c.passed.ensures.3

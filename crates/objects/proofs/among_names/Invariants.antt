@@ -10,9 +10,6 @@ use Rattle.objects.specs.Take.{took, times}
 use Rattle.objects.specs.View.{Name, a_name}
 use Rattle.objects.proofs.among_names.Given as goal
 
-abbrev pub invariant-loop-i : goal.invariant-loop-i
-invariant-loop-i l = (l.i ≤ l.n) × (l.q ≤ length (words_of l.objects))
-    × ((ns : List Name) (m : Name) (rest : List ℕ) → times l.n a_name (drop l.at (words_of l.objects)) ≡ took ns rest → NameAt (words_of l.objects) l.p m → Seeking (words_of l.objects) ns rest m (l.n - l.i) l.q)
-
-abbrev pub decreases-loop-i : goal.decreases-loop-i
-decreases-loop-i l = l.n - l.i
+abbrev pub invariant-loop : goal.invariant-loop
+invariant-loop l = (l.q ≤ length (words_of l.objects))
+    × ((ns : List Name) (m : Name) (rest : List ℕ) → times l.n a_name (drop l.at (words_of l.objects)) ≡ took ns rest → NameAt (words_of l.objects) l.p m → Seeking (words_of l.objects) ns rest m (l.n - l.counter) l.q)

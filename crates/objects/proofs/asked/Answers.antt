@@ -9,5 +9,5 @@ returns-then-x-lt-ASK_WITH c = λ words. asked-alone words (omega arith) c.passe
 pub returns-then-x-lt-PAST_OPERATIONS : goal.returns-then-x-lt-PAST_OPERATIONS
 returns-then-x-lt-PAST_OPERATIONS c = λ words. asked-with words (omega arith) (omega arith) (c.operand.ensures words)
 
-pub returns : goal.returns
-returns c = λ words. asked-none words (omega arith) c.refused.ensures.0 c.refused.ensures.1
+pub returns-else-x-lt-PAST_OPERATIONS : goal.returns-else-x-lt-PAST_OPERATIONS
+returns-else-x-lt-PAST_OPERATIONS c = λ words. asked-none words (omega arith) c.refused.ensures.0 c.refused.ensures.1

@@ -1,6 +1,5 @@
 -- `objects::bare` meets its contract.
 use native.Mathlib.Omega.{arith}
-use mathlib.Core.Path.{sym, ◌∙◌}
 use Rattle.objects.proofs.Told.{bare-some, bare-none, token-some, token-none, no_arm}
 use Rattle.objects.proofs.bare.Goals as goal
 
@@ -10,11 +9,11 @@ returns-then-token c = λ words. bare-none words c.if-x-eq-NO_OTHERWISE.true c.i
 pub returns-then-x-eq-NO_OTHERWISE : goal.returns-then-x-eq-NO_OTHERWISE
 returns-then-x-eq-NO_OTHERWISE c = λ words. bare-some words c.if-x-eq-NO_OTHERWISE.true c.if-token.false c.passed.ensures.0 c.passed.ensures.1 c.passed.ensures.2 c.passed.ensures.3
 
-pub returns-then-both : goal.returns-then-both
-returns-then-both c = λ words. token-some words c.if-x-eq-NO_TOKEN.true (sym c.both.ensures ∙ c.if-both.true) c.passed-then-both.ensures.0 c.passed-then-both.ensures.1 c.passed-then-both.ensures.2 c.passed-then-both.ensures.3
+pub returns-then-token-labelled : goal.returns-then-token-labelled
+returns-then-token-labelled c = λ words. token-some words c.if-x-eq-NO_TOKEN.true c.if-token-labelled.true c.passed-then-token-labelled.ensures.0 c.passed-then-token-labelled.ensures.1 c.passed-then-token-labelled.ensures.2 c.passed-then-token-labelled.ensures.3
 
 pub returns-then-x-eq-NO_TOKEN : goal.returns-then-x-eq-NO_TOKEN
-returns-then-x-eq-NO_TOKEN c = λ words. token-none words c.if-x-eq-NO_TOKEN.true (sym c.both.ensures ∙ c.if-both.false) c.refused-then-x-eq-NO_TOKEN.ensures.0 c.refused-then-x-eq-NO_TOKEN.ensures.1
+returns-then-x-eq-NO_TOKEN c = λ words. token-none words c.if-x-eq-NO_TOKEN.true c.if-token-labelled.false c.refused-then-x-eq-NO_TOKEN.ensures.0 c.refused-then-x-eq-NO_TOKEN.ensures.1
 
 pub returns : goal.returns
 returns c = λ words. no_arm words (omega arith) c.if-x-eq-NO_OTHERWISE.false c.requires.1 c.if-x-eq-NO_TOKEN.false c.refused-2.ensures.0 c.refused-2.ensures.1

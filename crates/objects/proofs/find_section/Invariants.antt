@@ -1,5 +1,4 @@
 -- `objects::find_section` meets its contract: the declarations passed are no such section.
-use Prim.Native.Nat.{◌-◌, ◌≤◌}
 use Rattle.machine.specs.Bytes.{words_of}
 use Rattle.objects.proofs.Sections.{Seeks}
 use Rattle.objects.specs.Places.{NameAt}
@@ -7,7 +6,4 @@ use Rattle.objects.specs.View.{Name}
 use Rattle.objects.proofs.find_section.Given as goal
 
 abbrev pub invariant-loop-i : goal.invariant-loop-i
-invariant-loop-i l = (l.i ≤ l.n) × ((m : Name) → NameAt (words_of l.objects) l.p m → Seeks l.text l.rows m.text l.n l.i)
-
-abbrev pub decreases-loop-i : goal.decreases-loop-i
-decreases-loop-i l = l.n - l.i
+invariant-loop-i l = (m : Name) → NameAt (words_of l.objects) l.p m → Seeks l.text l.rows m.text l.n l.i

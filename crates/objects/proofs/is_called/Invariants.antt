@@ -10,9 +10,6 @@ use Rattle.objects.specs.Take.{took, times}
 use Rattle.objects.specs.View.{Name, RuleView, a_rule}
 use Rattle.objects.proofs.is_called.Given as goal
 
-abbrev pub invariant-loop-i : goal.invariant-loop-i
-invariant-loop-i l = (l.i ≤ l.n) × (l.q ≤ length (words_of l.objects))
-    × ((vs : List RuleView) (m : Name) (rest : List ℕ) → times l.n a_rule (drop l.at (words_of l.objects)) ≡ took vs rest → NameAt (words_of l.objects) l.p m → SeekingRules (words_of l.objects) vs rest m (l.n - l.i) l.q)
-
-abbrev pub decreases-loop-i : goal.decreases-loop-i
-decreases-loop-i l = l.n - l.i
+abbrev pub invariant-loop : goal.invariant-loop
+invariant-loop l = (l.q ≤ length (words_of l.objects))
+    × ((vs : List RuleView) (m : Name) (rest : List ℕ) → times l.n a_rule (drop l.at (words_of l.objects)) ≡ took vs rest → NameAt (words_of l.objects) l.p m → SeekingRules (words_of l.objects) vs rest m (l.n - l.counter) l.q)

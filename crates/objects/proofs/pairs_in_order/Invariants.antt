@@ -12,11 +12,8 @@ use lib.ListN.{length}
 use mathlib.Core.List.{List}
 use Rattle.objects.proofs.pairs_in_order.Given as goal
 
-abbrev pub invariant-loop-i : goal.invariant-loop-i
-invariant-loop-i l =
-    (l.i ≤ l.scope.pairs.count) × (l.q ≤ length (words_of l.objects))
+abbrev pub invariant-loop : goal.invariant-loop
+invariant-loop l =
+    (l.q ≤ length (words_of l.objects))
     × ((hs : List Head) (n : Names) (v : View) → HeadsAt l.common l.heads hs → SectionsAt l.text l.rows l.scope.declared n → (x : PartsAt (words_of l.objects) l.scope.pairs.at l.scope.pairs.count l.scope.rules.at l.scope.rules.count v)
-    → Passing pair-exact (words_of l.objects) (pair_in_order hs n v.rules) v.pairs x.between (l.scope.pairs.count - l.i) l.q)
-
-abbrev pub decreases-loop-i : goal.decreases-loop-i
-decreases-loop-i l = l.scope.pairs.count - l.i
+    → Passing pair-exact (words_of l.objects) (pair_in_order hs n v.rules) v.pairs x.between (l.scope.pairs.count - l.counter) l.q)

@@ -6,8 +6,5 @@ use Rattle.objects.proofs.Ends.{Left}
 use Rattle.objects.specs.View.{a_pair}
 use Rattle.objects.proofs.past_pairs.Given as goal
 
-abbrev pub invariant-loop-i : goal.invariant-loop-i
-invariant-loop-i l = (l.i ≤ l.n) × (l.p ≤ length (words_of l.objects)) × Left a_pair (words_of l.objects) l.n l.at (l.n - l.i) l.p
-
-abbrev pub decreases-loop-i : goal.decreases-loop-i
-decreases-loop-i l = l.n - l.i
+abbrev pub invariant-loop : goal.invariant-loop
+invariant-loop l = (l.p ≤ length (words_of l.objects)) × Left a_pair (words_of l.objects) l.n l.at (l.n - l.counter) l.p

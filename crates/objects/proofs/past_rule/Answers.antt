@@ -1,16 +1,15 @@
 -- `objects::past_rule` meets its contract: a name, an option, names and cells, each behind the other.
-use native.Mathlib.Omega.{arith}
 use Rattle.objects.proofs.Ends.{rule-off, rule-off-gives, rule-off-calls, rule-ends}
 use Rattle.objects.proofs.past_rule.Goals as goal
 
-pub returns-then-gives-end : goal.returns-then-gives-end
-returns-then-gives-end c = rule-off c.past_name-gives.ensures (omega arith)
+pub returns-in_err-gives-clause-ends : goal.returns-in_err-gives-clause-ends
+returns-in_err-gives-clause-ends c = rw c.from_residual.ensures (rule-off c.in_err-gives.ensures.ends)
 
-pub returns-then-calls-end : goal.returns-then-calls-end
-returns-then-calls-end c = rule-off-gives c.past_name-gives.ensures (omega arith) c.past_option-calls.ensures (omega arith)
+pub returns-in_err-calls-clause-ends : goal.returns-in_err-calls-clause-ends
+returns-in_err-calls-clause-ends c = rw c.from_residual-in_err-calls.ensures (rule-off-gives c.in_ok-gives.ensures.ends c.in_err-calls.ensures.ends)
 
-pub returns-then-cells-end : goal.returns-then-cells-end
-returns-then-cells-end c = rule-off-calls c.past_name-gives.ensures (omega arith) c.past_option-calls.ensures (omega arith) c.past_calls-cells.ensures (omega arith)
+pub returns-in_err-cells-clause-ends : goal.returns-in_err-cells-clause-ends
+returns-in_err-cells-clause-ends c = rw c.from_residual-in_err-cells.ensures (rule-off-calls c.in_ok-gives.ensures.ends c.in_ok-calls.ensures.ends c.in_err-cells.ensures.ends)
 
-pub returns : goal.returns
-returns c = rule-ends c.past_name-gives.ensures (omega arith) c.past_option-calls.ensures (omega arith) c.past_calls-cells.ensures (omega arith) c.past_cells.ensures
+pub returns-clause-ends : goal.returns-clause-ends
+returns-clause-ends c = rule-ends c.in_ok-gives.ensures.ends c.in_ok-calls.ensures.ends c.in_ok-cells.ensures.ends c.past_cells.ensures.ends

@@ -8,54 +8,43 @@ use mathlib.Core.Path.{refl}
 use native.Mathlib.Omega.{arith}
 use Rattle.objects.proofs.rules_in_order.Goals as goal
 
-pub loop-i-init : goal.loop-i-init
-loop-i-init c =
+pub loop-init : goal.loop-init
+loop-init c =
     let a = c.args in
     let w = words_of a.objects.now in
-    (omega arith, omega arith, λ hs v h x. passing-all rule-exact w (rule_in_order hs v.pairs) v.rules x.behind (a.scope.rules.count - 0) a.scope.rules.count a.scope.rules.at a.scope.rules.at (omega arith) refl x.rules_there)
+    (omega arith, λ hs v h x. passing-all rule-exact w (rule_in_order hs v.pairs) v.rules x.behind (a.scope.rules.count - 0) a.scope.rules.count a.scope.rules.at a.scope.rules.at (omega arith) refl x.rules_there)
 
 pub returns-then-not-rule_in_order : goal.returns-then-not-rule_in_order
 returns-then-not-rule_in_order c =
     let a = c.args in
     let w = words_of a.objects.now in
-    let l = c.loop-i in
-    let i = c.loop-i.i in
+    let i = c.loop.counter in
     λ hs v h x.
-    let y = heading rule-exact w (rule_in_order hs v.pairs) v.rules x.behind (a.scope.rules.count - (i + 1)) (c.loop-i.invariant.2 hs v h x) (omega arith) in
+    let y = heading rule-exact w (rule_in_order hs v.pairs) v.rules x.behind (a.scope.rules.count - (i + 1)) (c.loop.invariant.1 hs v h x) (omega arith) in
     first-fails rule-exact w (rule_in_order hs v.pairs) v.rules x.behind y _ (c.rule_in_order.ensures hs v.pairs y.first y.tail x.between h x.pairs_there y.here) c.if-not-rule_in_order.true
 
-pub returns-then-q-end : goal.returns-then-q-end
-returns-then-q-end c =
+pub returns-in_default : goal.returns-in_default
+returns-in_default c =
     let a = c.args in
     let w = words_of a.objects.now in
-    let l = c.loop-i in
-    let i = c.loop-i.i in
+    let i = c.loop.counter in
     λ hs v h x.
-    let y = heading rule-exact w (rule_in_order hs v.pairs) v.rules x.behind (a.scope.rules.count - (i + 1)) (c.loop-i.invariant.2 hs v h x) (omega arith) in
-    let z = (y.behind _ c.past_rule-q.ensures).0 in
-    absurd (omega (arith, z))
+    let y = heading rule-exact w (rule_in_order hs v.pairs) v.rules x.behind (a.scope.rules.count - (i + 1)) (c.loop.invariant.1 hs v h x) (omega arith) in
+    absurd (y.there c.in_default.ensures.ends)
 
-pub overflow_add-i : goal.overflow_add-i
-overflow_add-i c = omega arith
-
-pub loop-i-smaller : goal.loop-i-smaller
-loop-i-smaller c = omega arith
-
-pub loop-i-preserved : goal.loop-i-preserved
-loop-i-preserved c =
+pub loop-preserved : goal.loop-preserved
+loop-preserved c =
     let a = c.args in
     let w = words_of a.objects.now in
-    let l = c.loop-i in
-    let i = c.loop-i.i in (
-      omega arith,
-      omega arith,
+    let i = c.loop.counter in (
+      c.in-Some.ensures.within,
       λ hs v h x.
-          let y = heading rule-exact w (rule_in_order hs v.pairs) v.rules x.behind (a.scope.rules.count - (i + 1)) (c.loop-i.invariant.2 hs v h x) (omega arith) in
-          first_passes rule-exact w (rule_in_order hs v.pairs) v.rules x.behind y _ (c.rule_in_order.ensures hs v.pairs y.first y.tail x.between h x.pairs_there y.here) c.if-not-rule_in_order.false _ c.past_rule-q.ensures,
+          let y = heading rule-exact w (rule_in_order hs v.pairs) v.rules x.behind (a.scope.rules.count - (i + 1)) (c.loop.invariant.1 hs v h x) (omega arith) in
+          first_passes rule-exact w (rule_in_order hs v.pairs) v.rules x.behind y _ (c.rule_in_order.ensures hs v.pairs y.first y.tail x.between h x.pairs_there y.here) c.if-not-rule_in_order.false _ c.in-Some.ensures.ends,
     )
 
 pub returns : goal.returns
 returns c =
     let a = c.args in
     let w = words_of a.objects.now in
-    λ hs v h x. all-passed rule-exact w (rule_in_order hs v.pairs) v.rules x.behind (c.loop-i.invariant.2 hs v h x) (omega arith)
+    λ hs v h x. all-passed rule-exact w (rule_in_order hs v.pairs) v.rules x.behind (c.loop.invariant.1 hs v h x) (omega arith)

@@ -11,11 +11,8 @@ use lib.ListN.{length}
 use mathlib.Core.List.{List}
 use Rattle.objects.proofs.rules_in_order.Given as goal
 
-abbrev pub invariant-loop-i : goal.invariant-loop-i
-invariant-loop-i l =
-    (l.i ≤ l.scope.rules.count) × (l.q ≤ length (words_of l.objects))
+abbrev pub invariant-loop : goal.invariant-loop
+invariant-loop l =
+    (l.q ≤ length (words_of l.objects))
     × ((hs : List Head) (v : View) → HeadsAt l.common l.heads hs → (x : PartsAt (words_of l.objects) l.scope.pairs.at l.scope.pairs.count l.scope.rules.at l.scope.rules.count v)
-    → Passing rule-exact (words_of l.objects) (rule_in_order hs v.pairs) v.rules x.behind (l.scope.rules.count - l.i) l.q)
-
-abbrev pub decreases-loop-i : goal.decreases-loop-i
-decreases-loop-i l = l.scope.rules.count - l.i
+    → Passing rule-exact (words_of l.objects) (rule_in_order hs v.pairs) v.rules x.behind (l.scope.rules.count - l.counter) l.q)

@@ -18,4 +18,4 @@ pub returns-then-n-eq-NAMES : goal.returns-then-n-eq-NAMES
 returns-then-n-eq-NAMES c = name-past _ _ _ _ c.requires.1 _ c.args.w c.if-not-led.false c.if-w-ne-NAME.false c.is_rule.ensures c.if-is_rule.false c.if-n-eq-NAMES.true
 
 pub returns : goal.returns
-returns c = name_new _ _ _ _ c.requires.1 _ c.args.w c.if-not-led.false c.if-w-ne-NAME.false c.is_rule.ensures c.if-is_rule.false c.if-n-eq-NAMES.false c.put_row.ensures
+returns c = name_new _ _ _ _ c.requires.1 _ c.args.w c.if-not-led.false c.if-w-ne-NAME.false c.is_rule.ensures c.if-is_rule.false c.if-n-eq-NAMES.false (rw c.from.ensures at c.put_row.ensures)

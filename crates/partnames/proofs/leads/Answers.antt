@@ -4,11 +4,10 @@ use borrow.Author.Tests.{eq-eqb, ne_eqb}
 use Rattle.partnames.specs.Mentioning.{leads}
 use Rattle.partnames.proofs.leads.Goals as goal
 
--- `partnames::leads` meets its contract.
 pub returns-then-kind-eq-AT : goal.returns-then-kind-eq-AT
 unfolding leads
 returns-then-kind-eq-AT c = rw (eq-eqb _ 64 c.if-kind-eq-AT.true) refl
 
-pub returns : goal.returns
+pub returns-else-kind-eq-AT : goal.returns-else-kind-eq-AT
 unfolding leads
-returns c = rw (ne_eqb _ 64 c.if-kind-eq-AT.false) refl
+returns-else-kind-eq-AT c = rw (ne_eqb _ 64 c.if-kind-eq-AT.false) refl

@@ -3,10 +3,6 @@ use native.Mathlib.Omega.{arith}
 use Rattle.partnames.specs.Buffer.{part_place}
 use Rattle.partnames.proofs.part_place.Goals as goal
 
-pub returns-then-from-at : goal.returns-then-from-at
-unfolding part_place
-returns-then-from-at c = omega arith
-
 pub returns : goal.returns
 unfolding part_place
-returns c = omega arith
+returns c = omega (arith, c.max.ensures)

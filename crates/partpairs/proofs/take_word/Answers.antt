@@ -5,5 +5,5 @@ use Rattle.partpairs.proofs.take_word.Goals as goal
 pub returns-then-w-eq-CARET : goal.returns-then-w-eq-CARET
 returns-then-w-eq-CARET c = word-caret c.if-w-eq-CARET.true c.take_use.ensures
 
-pub returns : goal.returns
-returns c = word-other c.if-w-eq-CARET.false c.requires.5
+pub returns-else-w-eq-CARET : goal.returns-else-w-eq-CARET
+returns-else-w-eq-CARET c = word-other c.if-w-eq-CARET.false c.requires.5

@@ -4,6 +4,7 @@ use mathlib.Core.Path.{sym, ◌∙◌}
 use Rattle.partpairs.proofs.Walking.{pairs-stop, pairs-last, pairs-full, pairs-step}
 use Rattle.symbols.proofs.Indexing.{kept-behind}
 use Rattle.partpairs.proofs.take_words.Goals as goal
+use Rattle.partpairs.proofs.take_words.Goals.{then-w-lt-FIRST_WORD-via-then-w-lt-FIRST_WORD, then-w-lt-FIRST_WORD-via-else-w-lt-FIRST_WORD+then-w-eq-END}
 
 pub loop-w-init : goal.loop-w-init
 loop-w-init c = (c.requires.0, c.requires.2, c.requires.3, c.requires.4, c.requires.6, λ rows' signs' d. d)
@@ -18,16 +19,11 @@ pub shape_of-signs-then-w-lt-FIRST_WORD : goal.shape_of-signs-then-w-lt-FIRST_WO
 shape_of-signs-then-w-lt-FIRST_WORD c = c.loop-w.invariant.2 ∙ sym c.requires.3
 
 pub returns-then-w-lt-FIRST_WORD : goal.returns-then-w-lt-FIRST_WORD
-returns-then-w-lt-FIRST_WORD c = c.loop-w.invariant.5 _ _ (pairs-stop c.loop-w.invariant.4 c.next_word-w.ensures c.if-w-lt-FIRST_WORD.true)
-
-pub shape_of-rows-then-w-eq-END : goal.shape_of-rows-then-w-eq-END
-shape_of-rows-then-w-eq-END c = c.loop-w.invariant.1 ∙ sym c.requires.2
-
-pub shape_of-signs-then-w-eq-END : goal.shape_of-signs-then-w-eq-END
-shape_of-signs-then-w-eq-END c = c.loop-w.invariant.2 ∙ sym c.requires.3
-
-pub returns-then-w-eq-END : goal.returns-then-w-eq-END
-returns-then-w-eq-END c = c.loop-w.invariant.5 _ _ (pairs-last c.loop-w.invariant.4 c.next_word-w.ensures c.if-w-eq-END.true)
+returns-then-w-lt-FIRST_WORD c =
+    elim c.then-w-lt-FIRST_WORD.branch [
+      | then-w-lt-FIRST_WORD-via-then-w-lt-FIRST_WORD w ↦ c.loop-w.invariant.5 _ _ (pairs-stop c.loop-w.invariant.4 c.next_word-w.ensures w.if-w-lt-FIRST_WORD.true)
+      | then-w-lt-FIRST_WORD-via-else-w-lt-FIRST_WORD+then-w-eq-END w ↦ c.loop-w.invariant.5 _ _ (pairs-last c.loop-w.invariant.4 c.next_word-w.ensures w.if-w-eq-END.true)
+    ]
 
 pub take_word-requires : goal.take_word-requires
 take_word-requires c = (omega (arith, c.loop-w.invariant.0, c.requires.1), c.loop-w.invariant.1, c.loop-w.invariant.2, c.loop-w.invariant.3, c.requires.5, c.loop-w.invariant.4)

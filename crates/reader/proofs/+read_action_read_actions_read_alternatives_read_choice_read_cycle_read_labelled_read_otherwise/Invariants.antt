@@ -1,9 +1,8 @@
 -- The readers of actions, cycles, choices and alternatives meet their contracts. Measure: five times the nesting left, and a rank.
 use Prim.Native.Nat.{◌+◌, ◌*◌, ◌-◌, ◌≤◌}
 use lib.ListN.{length}
-use Rattle.reader.specs.Answers.{Reads}
+use Rattle.reader.specs.Answers.{Out, Reads}
 use Rattle.syntax.specs.Actions.{actions, alternatives}
-use Rattle.reader.specs.declared.Out.{Out}
 use Rattle.reader.proofs.+read_action_read_actions_read_alternatives_read_choice_read_cycle_read_labelled_read_otherwise.Given as goal
 
 abbrev pub decreases-read_action : goal.decreases-read_action

@@ -9,6 +9,6 @@ pub returns-then-w-kind : goal.returns-then-w-kind
 unfolding expect
 returns-then-w-kind c = record { low = omega arith; high = omega arith; tells = λ k h. yes _ _ _ c.look-w.ensures c.if-w-kind.true (passed c.look-w.ensures (omega arith) refl refl) }
 
-pub returns : goal.returns
+pub returns-else-w-kind : goal.returns-else-w-kind
 unfolding expect
-returns c = record { low = omega arith; high = omega arith; tells = λ k h. no _ _ _ c.look-w.ensures c.if-w-kind.false (refuses c.look-w.ensures c.refused.ensures) }
+returns-else-w-kind c = record { low = omega arith; high = omega arith; tells = λ k h. no _ _ _ c.look-w.ensures c.if-w-kind.false (refuses c.look-w.ensures c.refused.ensures) }

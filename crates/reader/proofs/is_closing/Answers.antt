@@ -1,22 +1,21 @@
 -- `reader::is_closing` meets its contract.
-use mathlib.Core.Path.{refl}
-use borrow.Author.Tests.{ne_eqb, eq-eqb}
+use Rattle.std.proofs.Common.{refl, sym}
+use native.Mathlib.Omega.{arith}
+use borrow.Author.Tests.{ne_eqb}
+use Rattle.reader.proofs.Laws.{closes-either, closes-both}
 use Rattle.syntax.specs.Actions.{closes}
 use Rattle.reader.proofs.is_closing.Goals as goal
 
--- `reader::is_closing` meets its contract.
-pub returns-then-kind-eq-SEMICOLON : goal.returns-then-kind-eq-SEMICOLON
+pub returns-in_default : goal.returns-in_default
 unfolding closes
-returns-then-kind-eq-SEMICOLON c = rw (eq-eqb c.args.kind 59 c.if-kind-eq-SEMICOLON.true) refl
+returns-in_default c = rw (ne_eqb c.args.kind 59 (λ e. grind arith), ne_eqb c.args.kind 125 (λ e. grind arith), ne_eqb c.args.kind 93 (λ e. grind arith), ne_eqb c.args.kind 124 (λ e. grind arith)) refl
 
-pub returns-then-kind-eq-OD : goal.returns-then-kind-eq-OD
+pub returns-in_default-2 : goal.returns-in_default-2
 unfolding closes
-returns-then-kind-eq-OD c = rw (ne_eqb c.args.kind 59 c.if-kind-eq-SEMICOLON.false, eq-eqb c.args.kind 125 c.if-kind-eq-OD.true) refl
+returns-in_default-2 c = rw (ne_eqb c.args.kind 59 (λ e. grind arith), ne_eqb c.args.kind 125 (λ e. grind arith), ne_eqb c.args.kind 93 (λ e. grind arith), ne_eqb c.args.kind 124 (λ e. grind arith)) refl
 
-pub returns-then-kind-eq-FI : goal.returns-then-kind-eq-FI
-unfolding closes
-returns-then-kind-eq-FI c = rw (ne_eqb c.args.kind 59 c.if-kind-eq-SEMICOLON.false, ne_eqb c.args.kind 125 c.if-kind-eq-OD.false, eq-eqb c.args.kind 93 c.if-kind-eq-FI.true) refl
+pub returns-in-59 : goal.returns-in-59
+returns-in-59 c = sym (closes-either c.args.kind c.in-59.is)
 
-pub returns : goal.returns
-unfolding closes
-returns c = rw (ne_eqb c.args.kind 59 c.if-kind-eq-SEMICOLON.false, ne_eqb c.args.kind 125 c.if-kind-eq-OD.false, ne_eqb c.args.kind 93 c.if-kind-eq-FI.false) refl
+pub returns-in-59-2 : goal.returns-in-59-2
+returns-in-59-2 c = sym (closes-both c.args.kind (grind arith) (grind arith))

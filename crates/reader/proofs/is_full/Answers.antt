@@ -5,8 +5,8 @@ use Rattle.reader.proofs.is_full.Goals as goal
 
 pub returns-then-kind : goal.returns-then-kind
 unfolding full_in
-returns-then-kind c = rw (c.if-kind.true, ← c.count_of-n.ensures) refl
+returns-then-kind c = rw (c.if-kind.true, ← c.count_of.ensures) refl
 
-pub returns : goal.returns
+pub returns-else-kind : goal.returns-else-kind
 unfolding full_in
-returns c = rw c.if-kind.false refl
+returns-else-kind c = rw c.if-kind.false refl

@@ -1,5 +1,4 @@
 -- `reader::look_ahead` meets its contract.
-use native.Mathlib.Omega.{arith}
 use Rattle.reader.proofs.SectionLaws.{ahead-open, ahead-plain, ahead-taking, ahead-unclosed}
 use Rattle.reader.specs.Counting.{told_kind}
 use Rattle.reader.proofs.look_ahead.Goals as goal
@@ -8,22 +7,13 @@ pub returns-then-p-ne-OPENING : goal.returns-then-p-ne-OPENING
 unfolding told_kind
 returns-then-p-ne-OPENING c = ahead-plain c.look-p.ensures c.if-p-ne-OPENING.true
 
-pub look-t-requires : goal.look-t-requires
-look-t-requires c = omega arith
-
 pub returns-then-t-ne-NAME : goal.returns-then-t-ne-NAME
 unfolding told_kind
 returns-then-t-ne-NAME c = ahead-open c.look-p.ensures c.if-p-ne-OPENING.false c.look-t.ensures c.if-t-ne-NAME.true
 
-pub look-c-requires : goal.look-c-requires
-look-c-requires c = omega arith
-
 pub returns-then-c-ne-CLOSING : goal.returns-then-c-ne-CLOSING
 unfolding told_kind
 returns-then-c-ne-CLOSING c = ahead-unclosed c.look-p.ensures c.if-p-ne-OPENING.false c.look-t.ensures c.if-t-ne-NAME.false c.look-c.ensures c.if-c-ne-CLOSING.true
-
-pub look-g-requires : goal.look-g-requires
-look-g-requires c = omega arith
 
 pub returns : goal.returns
 unfolding told_kind

@@ -2,6 +2,5 @@
 use Rattle.reader.proofs.SectionLaws.{start-kept}
 use Rattle.reader.proofs.no_section.Goals as goal
 
--- `reader::no_section` meets its contract.
 pub returns : goal.returns
 returns c = start-kept

@@ -1,37 +1,23 @@
 -- `reader::number_of` meets its contract.
-use mathlib.Core.Path.{refl, sym, ◌∙◌}
+use mathlib.Core.Path.{◌≡◌, sym, ◌∙◌}
+use Prim.Native.Nat.{◌+◌, ◌*◌}
 use native.Mathlib.Omega.{arith}
-use lib.ListN.{take, drop}
-use Rattle.reader.proofs.SectionLaws.{number-on, number_past, value-end}
-use Rattle.scanner.proofs.WordLaws.{part_length}
+use lib.ListN.{drop}
+use Rattle.reader.proofs.SectionLaws.{value-go, value-end, value_low}
+use Rattle.words.specs.Words.{value}
 use Rattle.reader.proofs.number_of.Goals as goal
 
-pub loop-i-init : goal.loop-i-init
-loop-i-init c = (omega arith, omega arith, refl)
+pub returns-then-n-gt-GREATEST_VALUE : goal.returns-then-n-gt-GREATEST_VALUE
+returns-then-n-gt-GREATEST_VALUE c =
+    let ds = c.part-b-items.result.now in
+    let i = c.loop-b.b-index in
+    let go : value (c.loop-b.n * 10 + c.digit_of.result) (drop (i + 1) ds) ≡ value c.loop-b.n (drop i ds) = rw c.digit_of.ensures.0 (sym (value-go c.loop-b.n ds i c.loop-b-test.true)) in
+    record { exact = λ e. absurd (omega arith); past = λ e. omega (arith, value_low (c.loop-b.n * 10 + c.digit_of.result) (drop (i + 1) ds), go, c.loop-b.invariant.1) }
 
-pub overflow_add-j : goal.overflow_add-j
-overflow_add-j c = omega arith
-
-pub bounds-text-j : goal.bounds-text-j
-bounds-text-j c = omega arith
-
-pub overflow_mul-m : goal.overflow_mul-m
-overflow_mul-m c = omega arith
-
-pub overflow_add-m : goal.overflow_add-m
-overflow_add-m c = omega arith
-
-pub returns-then-m-gt-GREATEST_VALUE : goal.returns-then-m-gt-GREATEST_VALUE
-returns-then-m-gt-GREATEST_VALUE c = record { exact = λ e. absurd (omega arith); past = λ e. number_past c.args.text.now c.args.start c.args.len c.loop-i.n c.loop-i.i c.digit_of-d.result c.requires c.loop-i-test.true c.digit_of-d.ensures.0 c.if-m-gt-GREATEST_VALUE.true c.loop-i.invariant.2 }
-
-pub overflow_add-i : goal.overflow_add-i
-overflow_add-i c = omega arith
-
-pub loop-i-smaller : goal.loop-i-smaller
-loop-i-smaller c = omega arith
-
-pub loop-i-preserved : goal.loop-i-preserved
-loop-i-preserved c = (omega arith, omega arith, number-on c.args.text.now c.args.start c.args.len c.loop-i.n c.loop-i.i c.digit_of-d.result c.requires c.loop-i-test.true c.digit_of-d.ensures.0 c.loop-i.invariant.2)
+pub loop-b-preserved : goal.loop-b-preserved
+loop-b-preserved c =
+    let ds = c.part-b-items.result.now in
+    (omega arith, rw c.digit_of.ensures.0 (sym (value-go c.loop-b.n ds c.loop-b.b-index c.loop-b-test.true)) ∙ c.loop-b.invariant.1)
 
 pub returns : goal.returns
-returns c = record { exact = λ e. sym c.loop-i.invariant.2 ∙ value-end c.loop-i.n (take c.args.len (drop c.args.start c.args.text.now)) c.loop-i.i (omega (arith, part_length c.args.text.now c.args.start c.args.len c.requires)); past = λ e. absurd (omega arith) }
+returns c = record { exact = λ e. sym c.loop-b.invariant.1 ∙ value-end c.loop-b.n c.part-b-items.result.now c.loop-b.b-index c.loop-b-test.false; past = λ e. absurd (omega arith) }

@@ -1,4 +1,6 @@
 -- `reader::read_end` meets its contract.
+use Rattle.std.proofs.lemmas.Result.{err_from_is_err_and}
+use Rattle.reader.proofs.Laws.{not_none}
 use mathlib.Core.Path.{refl}
 use Prim.Native.Nat.{◌+◌}
 use native.Mathlib.Omega.{arith}
@@ -8,21 +10,14 @@ use Rattle.reader.proofs.SectionLaws.{decides-off, decides-on, last_word, no_las
 use Rattle.reader.specs.Counting.{ending}
 use Rattle.reader.proofs.read_end.Goals as goal
 
--- `reader::read_end` meets its contract.
-pub expect_word-e-requires : goal.expect_word-e-requires
-expect_word-e-requires c = omega arith
-
-pub returns-then-e-ne0 : goal.returns-then-e-ne0
+pub returns-in_err-e : goal.returns-in_err-e
 unfolding ending
-returns-then-e-ne0 c = decides-off (stops _ (c.expect_word-e.ensures.tells (length c.args.text.now + 1) (omega arith)) c.if-e-ne0.true) c.if-e-ne0.true
-
-pub look-w-requires : goal.look-w-requires
-look-w-requires c = omega arith
+returns-in_err-e c = let p = err_from_is_err_and c.from_residual.result c.from_residual.ensures.1 in rw (p.1, p.2) (decides-off (stops _ (c.in_err-e.ensures.tells (length c.args.text.now + 1) (omega (arith, c.in_err-e.ensures.low, c.in_err-e.ensures.high))) (not_none _)) (not_none _))
 
 pub returns-then-w-eq-LAST : goal.returns-then-w-eq-LAST
 unfolding ending
-returns-then-w-eq-LAST c = decides-on _ (any_value (c.expect_word-e.ensures.tells (length c.args.text.now + 1) (omega arith))) c.if-e-ne0.false (λ a _. last_word c.look-w.ensures c.if-w-eq-LAST.true refl)
+returns-then-w-eq-LAST c = decides-on _ (any_value (c.in_ok-e.ensures.tells (length c.args.text.now + 1) (omega (arith, c.in_ok-e.ensures.low, c.in_ok-e.ensures.high)))) refl (λ a _. last_word c.look-w.ensures c.if-w-eq-LAST.true refl)
 
-pub returns : goal.returns
+pub returns-else-w-eq-LAST : goal.returns-else-w-eq-LAST
 unfolding ending
-returns c = decides-on _ (any_value (c.expect_word-e.ensures.tells (length c.args.text.now + 1) (omega arith))) c.if-e-ne0.false (λ a _. no_last c.look-w.ensures c.if-w-eq-LAST.false c.refused.ensures)
+returns-else-w-eq-LAST c = decides-on _ (any_value (c.in_ok-e.ensures.tells (length c.args.text.now + 1) (omega (arith, c.in_ok-e.ensures.low, c.in_ok-e.ensures.high)))) refl (λ a _. no_last c.look-w.ensures c.if-w-eq-LAST.false c.refused.ensures)

@@ -1,10 +1,9 @@
 -- `reader::read_entries` meets its contract.
 use Prim.Native.Nat.{ℕ, ◌-◌, ◌≤◌}
 use lib.ListN.{length}
-use Rattle.reader.specs.Answers.{Yields}
+use Rattle.reader.specs.Answers.{Out, Yields}
 use Rattle.reader.specs.Counting.{Entered}
 use Rattle.syntax.specs.Sections.{entries}
-use Rattle.reader.specs.declared.Out.{Out}
 use Rattle.reader.proofs.read_entries.Given as goal
 
 abbrev pub invariant-loop-e : goal.invariant-loop-e

@@ -9,9 +9,6 @@ pub returns-then-w-ne-TWICE : goal.returns-then-w-ne-TWICE
 unfolding optional
 returns-then-w-ne-TWICE c = record { low = omega arith; high = omega arith; tells = λ k h. no _ _ _ c.look-w.ensures c.if-w-ne-TWICE.true (gives refl) }
 
-pub read_name-requires : goal.read_name-requires
-read_name-requires c = omega arith
-
 pub returns : goal.returns
 unfolding optional
 returns c = record { low = omega arith; high = omega arith; tells = λ k h. yes _ _ _ c.look-w.ensures c.if-w-ne-TWICE.false (passes _ c.look-w.ensures (omega arith) (ends _ (c.read_name.ensures.reads.tells k (omega arith)))) }

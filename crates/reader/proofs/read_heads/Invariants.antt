@@ -1,9 +1,8 @@
 -- `reader::read_heads` meets its contract.
 use Prim.Native.Nat.{◌-◌, ◌≤◌}
 use lib.ListN.{length}
-use Rattle.reader.specs.Answers.{Reads}
+use Rattle.reader.specs.Answers.{Out, Reads}
 use Rattle.syntax.specs.Texts.{some_heads}
-use Rattle.reader.specs.declared.Out.{Out}
 use Rattle.reader.proofs.read_heads.Given as goal
 
 abbrev pub invariant-loop-at : goal.invariant-loop-at

@@ -1,10 +1,9 @@
 -- `reader::read_labels` meets its contract.
 use Prim.Native.Nat.{ℕ, ◌+◌, ◌-◌, ◌≤◌}
 use lib.ListN.{length}
-use Rattle.reader.specs.Answers.{Yields}
+use Rattle.reader.specs.Answers.{Out, Yields}
 use Rattle.reader.specs.Parts.{Leaves}
 use Rattle.syntax.specs.Actions.{some_labels}
-use Rattle.reader.specs.declared.Out.{Out}
 use Rattle.reader.proofs.read_labels.Given as goal
 
 abbrev pub invariant-loop-r : goal.invariant-loop-r

@@ -1,20 +1,16 @@
 -- `reader::read_listed` meets its contract.
+use Rattle.std.proofs.lemmas.Result.{err_from_is_err_and}
+use Rattle.reader.proofs.Laws.{not_none}
+use mathlib.Core.Path.{refl}
 use native.Mathlib.Omega.{arith}
 use Rattle.reader.proofs.Laws.{any_value, faulty, goes_with, stops}
 use Rattle.reader.specs.Counting.{listed}
 use Rattle.reader.proofs.read_listed.Goals as goal
 
--- `reader::read_listed` meets its contract.
-pub expect_word-c-requires : goal.expect_word-c-requires
-expect_word-c-requires c = omega arith
-
-pub returns-then-c-ne0 : goal.returns-then-c-ne0
+pub returns-in_err-c : goal.returns-in_err-c
 unfolding listed
-returns-then-c-ne0 c = record { low = omega arith; high = omega arith; past = λ e. absurd (c.if-c-ne0.true e); brings = λ k h. faulty (stops _ (c.expect_word-c.ensures.tells k h) c.if-c-ne0.true) c.if-c-ne0.true }
-
-pub read_entries-requires : goal.read_entries-requires
-read_entries-requires c = omega arith
+returns-in_err-c c = let p = err_from_is_err_and c.from_residual.result c.from_residual.ensures.1 in rw (p.1, p.2) (record { low = omega (arith, c.in_err-c.ensures.low, c.in_err-c.ensures.high); high = omega (arith, c.in_err-c.ensures.low, c.in_err-c.ensures.high); past = λ e. absurd ((not_none _) e); brings = λ k h. faulty (stops _ (c.in_err-c.ensures.tells k h) (not_none _)) (not_none _) })
 
 pub returns : goal.returns
 unfolding listed
-returns c = record { low = omega arith; high = omega arith; past = λ e. omega (arith, c.read_entries.ensures.past e); brings = λ k h. goes_with _ (any_value (c.expect_word-c.ensures.tells k h)) c.if-c-ne0.false (λ a _. c.read_entries.ensures.brings k (omega arith)) }
+returns c = record { low = omega (arith, c.in_ok-c.ensures.low, c.in_ok-c.ensures.high); high = omega (arith, c.in_ok-c.ensures.low, c.in_ok-c.ensures.high); past = λ e. omega (arith, c.in_ok-c.ensures.low, c.in_ok-c.ensures.high, c.read_entries.ensures.past e); brings = λ k h. goes_with _ (any_value (c.in_ok-c.ensures.tells k h)) refl (λ a _. c.read_entries.ensures.brings k (omega (arith, c.in_ok-c.ensures.low, c.in_ok-c.ensures.high))) }

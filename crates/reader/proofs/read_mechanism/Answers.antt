@@ -1,4 +1,7 @@
 -- `reader::read_mechanism` meets its contract.
+use Rattle.std.proofs.lemmas.Result.{err_from_is_err_and}
+use Rattle.reader.proofs.Laws.{not_none}
+use mathlib.Core.Path.{refl}
 use Prim.Native.Nat.{suc}
 use native.Mathlib.Omega.{arith}
 use Rattle.reader.proofs.Laws.{any_value, ends_with, faulty, goes, goes_with, stops}
@@ -6,31 +9,22 @@ use Rattle.reader.proofs.SectionLaws.{kept-operations, operations-as}
 use Rattle.syntax.specs.Sections.{mechanism_section}
 use Rattle.reader.proofs.read_mechanism.Goals as goal
 
--- `reader::read_mechanism` meets its contract.
-pub expect_word-m-requires : goal.expect_word-m-requires
-expect_word-m-requires c = omega arith
-
-pub returns-then-m-ne0 : goal.returns-then-m-ne0
+pub returns-in_err-m : goal.returns-in_err-m
 unfolding mechanism_section
-returns-then-m-ne0 c = record { low = omega arith; high = omega arith; past = λ e. absurd (c.if-m-ne0.true e); brings = λ s q k h. faulty (stops _ (c.expect_word-m.ensures.tells (suc k) (omega arith)) c.if-m-ne0.true) c.if-m-ne0.true }
+returns-in_err-m c = let p = err_from_is_err_and c.from_residual.result c.from_residual.ensures.1 in rw (p.1, p.2) (record { low = omega (arith, c.in_err-m.ensures.low, c.in_err-m.ensures.high); high = omega (arith, c.in_err-m.ensures.low, c.in_err-m.ensures.high); past = λ e. absurd ((not_none _) e); brings = λ s q k h. faulty (stops _ (c.in_err-m.ensures.tells (suc k) (omega (arith, c.in_err-m.ensures.low, c.in_err-m.ensures.high))) (not_none _)) (not_none _) })
 
-pub read_name-n-requires : goal.read_name-n-requires
-read_name-n-requires c = omega arith
-
-pub returns-then-n-ne0 : goal.returns-then-n-ne0
+pub returns-in_err-n : goal.returns-in_err-n
 unfolding mechanism_section
-returns-then-n-ne0 c = record { low = omega arith; high = omega arith; past = λ e. absurd (c.if-n-ne0.true e); brings = λ s q k h. faulty (goes _ (c.expect_word-m.ensures.tells (suc k) (omega arith)) c.if-m-ne0.false (λ a. stops _ (c.read_name-n.ensures.reads.tells (suc k) (omega arith)) c.if-n-ne0.true)) c.if-n-ne0.true }
+returns-in_err-n c = let p = err_from_is_err_and c.from_residual-in_err-n.result c.from_residual-in_err-n.ensures.1 in rw (p.1, p.2) (record { low = omega (arith, c.in_ok-m.ensures.low, c.in_ok-m.ensures.high, c.in_err-n.ensures.reads.low, c.in_err-n.ensures.reads.high); high = omega (arith, c.in_ok-m.ensures.low, c.in_ok-m.ensures.high, c.in_err-n.ensures.reads.low, c.in_err-n.ensures.reads.high); past = λ e. absurd ((not_none _) e); brings = λ s q k h. faulty (goes _ (c.in_ok-m.ensures.tells (suc k) (omega (arith, c.in_ok-m.ensures.low, c.in_ok-m.ensures.high, c.in_err-n.ensures.reads.low, c.in_err-n.ensures.reads.high))) refl (λ a. stops _ (c.in_err-n.ensures.reads.tells (suc k) (omega (arith, c.in_ok-m.ensures.low, c.in_ok-m.ensures.high, c.in_err-n.ensures.reads.low, c.in_err-n.ensures.reads.high))) (not_none _))) (not_none _) })
 
-pub expect_word-c-requires : goal.expect_word-c-requires
-expect_word-c-requires c = omega arith
-
-pub returns-then-c-ne0 : goal.returns-then-c-ne0
+pub returns-in_err-c : goal.returns-in_err-c
 unfolding mechanism_section
-returns-then-c-ne0 c = record { low = omega arith; high = omega arith; past = λ e. absurd (c.if-c-ne0.true e); brings = λ s q k h. faulty (goes _ (c.expect_word-m.ensures.tells (suc k) (omega arith)) c.if-m-ne0.false (λ a. goes _ (c.read_name-n.ensures.reads.tells (suc k) (omega arith)) c.if-n-ne0.false (λ b. stops _ (c.expect_word-c.ensures.tells (suc k) (omega arith)) c.if-c-ne0.true))) c.if-c-ne0.true }
-
-pub read_operations-p-requires : goal.read_operations-p-requires
-read_operations-p-requires c = omega arith
+returns-in_err-c c = let p = err_from_is_err_and c.from_residual-in_err-c.result c.from_residual-in_err-c.ensures.1 in rw (p.1, p.2) (record { low = omega (arith, c.in_ok-m.ensures.low, c.in_ok-m.ensures.high, c.in_ok-n.ensures.reads.low, c.in_ok-n.ensures.reads.high, c.in_ok-n.ensures.past refl, c.in_err-c.ensures.low, c.in_err-c.ensures.high); high = omega (arith, c.in_ok-m.ensures.low, c.in_ok-m.ensures.high, c.in_ok-n.ensures.reads.low, c.in_ok-n.ensures.reads.high, c.in_ok-n.ensures.past refl, c.in_err-c.ensures.low, c.in_err-c.ensures.high); past = λ e. absurd ((not_none _) e); brings = λ s q k h. faulty (goes _ (c.in_ok-m.ensures.tells (suc k) (omega (arith, c.in_ok-m.ensures.low, c.in_ok-m.ensures.high, c.in_ok-n.ensures.reads.low, c.in_ok-n.ensures.reads.high, c.in_ok-n.ensures.past refl, c.in_err-c.ensures.low, c.in_err-c.ensures.high))) refl (λ a. goes _ (c.in_ok-n.ensures.reads.tells (suc k) (omega (arith, c.in_ok-m.ensures.low, c.in_ok-m.ensures.high, c.in_ok-n.ensures.reads.low, c.in_ok-n.ensures.reads.high, c.in_ok-n.ensures.past refl, c.in_err-c.ensures.low, c.in_err-c.ensures.high))) refl (λ b. stops _ (c.in_err-c.ensures.tells (suc k) (omega (arith, c.in_ok-m.ensures.low, c.in_ok-m.ensures.high, c.in_ok-n.ensures.reads.low, c.in_ok-n.ensures.reads.high, c.in_ok-n.ensures.past refl, c.in_err-c.ensures.low, c.in_err-c.ensures.high))) (not_none _)))) (not_none _) })
 
 pub returns : goal.returns
 unfolding mechanism_section
-returns c = record { low = omega (arith, c.expect_word-m.ensures.low, c.read_name-n.ensures.reads.low, c.expect_word-c.ensures.low, c.read_operations-p.ensures.low); high = omega (arith, c.expect_word-m.ensures.low, c.read_name-n.ensures.reads.low, c.expect_word-c.ensures.low, c.read_operations-p.ensures.low); past = λ e. omega (arith, c.expect_word-m.ensures.low, c.read_name-n.ensures.reads.low, c.expect_word-c.ensures.low, c.read_operations-p.ensures.low, c.read_operations-p.ensures.past e); brings = λ s q k h. goes_with _ (any_value (c.expect_word-m.ensures.tells (suc k) (omega (arith, c.expect_word-m.ensures.low, c.read_name-n.ensures.reads.low, c.expect_word-c.ensures.low, c.read_operations-p.ensures.low)))) c.if-m-ne0.false (λ a _. goes_with _ (any_value (c.read_name-n.ensures.reads.tells (suc k) (omega (arith, c.expect_word-m.ensures.low, c.read_name-n.ensures.reads.low, c.expect_word-c.ensures.low, c.read_operations-p.ensures.low)))) c.if-n-ne0.false (λ b _. goes_with _ (any_value (c.expect_word-c.ensures.tells (suc k) (omega (arith, c.expect_word-m.ensures.low, c.read_name-n.ensures.reads.low, c.expect_word-c.ensures.low, c.read_operations-p.ensures.low)))) c.if-c-ne0.false (λ d _. ends_with _ (operations-as k _ _ _ _ q.left (c.read_operations-p.ensures.brings s.seen q.kinds k (omega (arith, c.expect_word-m.ensures.low, c.read_name-n.ensures.reads.low, c.expect_word-c.ensures.low, c.read_operations-p.ensures.low, c.read_name-n.ensures.past c.if-n-ne0.false)))) (λ os z. kept-operations s c.args.state _ _ os q z)))) }
+returns c = record { low = omega (arith, c.in_ok-m.ensures.low, c.in_ok-m.ensures.high, c.in_ok-n.ensures.reads.low, c.in_ok-n.ensures.reads.high, c.in_ok-n.ensures.past refl, c.in_ok-c.ensures.low, c.in_ok-c.ensures.high, c.in_ok-p.ensures.low, c.in_ok-p.ensures.high, c.in_ok-p.ensures.past refl, c.in_ok-m.ensures.low, c.in_ok-n.ensures.reads.low, c.in_ok-c.ensures.low, c.in_ok-p.ensures.low); high = omega (arith, c.in_ok-m.ensures.low, c.in_ok-m.ensures.high, c.in_ok-n.ensures.reads.low, c.in_ok-n.ensures.reads.high, c.in_ok-n.ensures.past refl, c.in_ok-c.ensures.low, c.in_ok-c.ensures.high, c.in_ok-p.ensures.low, c.in_ok-p.ensures.high, c.in_ok-p.ensures.past refl, c.in_ok-m.ensures.low, c.in_ok-n.ensures.reads.low, c.in_ok-c.ensures.low, c.in_ok-p.ensures.low); past = λ e. omega (arith, c.in_ok-m.ensures.low, c.in_ok-m.ensures.high, c.in_ok-n.ensures.reads.low, c.in_ok-n.ensures.reads.high, c.in_ok-n.ensures.past refl, c.in_ok-c.ensures.low, c.in_ok-c.ensures.high, c.in_ok-p.ensures.low, c.in_ok-p.ensures.high, c.in_ok-p.ensures.past refl, c.in_ok-m.ensures.low, c.in_ok-n.ensures.reads.low, c.in_ok-c.ensures.low, c.in_ok-p.ensures.low, c.in_ok-p.ensures.past e); brings = λ s q k h. goes_with _ (any_value (c.in_ok-m.ensures.tells (suc k) (omega (arith, c.in_ok-m.ensures.low, c.in_ok-m.ensures.high, c.in_ok-n.ensures.reads.low, c.in_ok-n.ensures.reads.high, c.in_ok-n.ensures.past refl, c.in_ok-c.ensures.low, c.in_ok-c.ensures.high, c.in_ok-p.ensures.low, c.in_ok-p.ensures.high, c.in_ok-p.ensures.past refl, c.in_ok-m.ensures.low, c.in_ok-n.ensures.reads.low, c.in_ok-c.ensures.low, c.in_ok-p.ensures.low)))) refl (λ a _. goes_with _ (any_value (c.in_ok-n.ensures.reads.tells (suc k) (omega (arith, c.in_ok-m.ensures.low, c.in_ok-m.ensures.high, c.in_ok-n.ensures.reads.low, c.in_ok-n.ensures.reads.high, c.in_ok-n.ensures.past refl, c.in_ok-c.ensures.low, c.in_ok-c.ensures.high, c.in_ok-p.ensures.low, c.in_ok-p.ensures.high, c.in_ok-p.ensures.past refl, c.in_ok-m.ensures.low, c.in_ok-n.ensures.reads.low, c.in_ok-c.ensures.low, c.in_ok-p.ensures.low)))) refl (λ b _. goes_with _ (any_value (c.in_ok-c.ensures.tells (suc k) (omega (arith, c.in_ok-m.ensures.low, c.in_ok-m.ensures.high, c.in_ok-n.ensures.reads.low, c.in_ok-n.ensures.reads.high, c.in_ok-n.ensures.past refl, c.in_ok-c.ensures.low, c.in_ok-c.ensures.high, c.in_ok-p.ensures.low, c.in_ok-p.ensures.high, c.in_ok-p.ensures.past refl, c.in_ok-m.ensures.low, c.in_ok-n.ensures.reads.low, c.in_ok-c.ensures.low, c.in_ok-p.ensures.low)))) refl (λ d _. ends_with _ (operations-as k _ _ _ _ q.left (c.in_ok-p.ensures.brings s.seen q.kinds k (omega (arith, c.in_ok-m.ensures.low, c.in_ok-m.ensures.high, c.in_ok-n.ensures.reads.low, c.in_ok-n.ensures.reads.high, c.in_ok-n.ensures.past refl, c.in_ok-c.ensures.low, c.in_ok-c.ensures.high, c.in_ok-p.ensures.low, c.in_ok-p.ensures.high, c.in_ok-p.ensures.past refl, c.in_ok-m.ensures.low, c.in_ok-n.ensures.reads.low, c.in_ok-c.ensures.low, c.in_ok-p.ensures.low, c.in_ok-n.ensures.past refl)))) (λ os z. kept-operations s c.args.state _ _ os q z)))) }
+
+pub returns-in_err-p : goal.returns-in_err-p
+unfolding mechanism_section
+returns-in_err-p c = let p = err_from_is_err_and c.from_residual-in_err-p.result c.from_residual-in_err-p.ensures.1 in rw (p.1, p.2) (record { low = omega (arith, c.in_ok-m.ensures.low, c.in_ok-m.ensures.high, c.in_ok-n.ensures.reads.low, c.in_ok-n.ensures.reads.high, c.in_ok-n.ensures.past refl, c.in_ok-c.ensures.low, c.in_ok-c.ensures.high, c.in_err-p.ensures.low, c.in_err-p.ensures.high, c.in_ok-m.ensures.low, c.in_ok-n.ensures.reads.low, c.in_ok-c.ensures.low, c.in_err-p.ensures.low); high = omega (arith, c.in_ok-m.ensures.low, c.in_ok-m.ensures.high, c.in_ok-n.ensures.reads.low, c.in_ok-n.ensures.reads.high, c.in_ok-n.ensures.past refl, c.in_ok-c.ensures.low, c.in_ok-c.ensures.high, c.in_err-p.ensures.low, c.in_err-p.ensures.high, c.in_ok-m.ensures.low, c.in_ok-n.ensures.reads.low, c.in_ok-c.ensures.low, c.in_err-p.ensures.low); past = λ e. absurd (not_none _ e); brings = λ s q k h. goes_with _ (any_value (c.in_ok-m.ensures.tells (suc k) (omega (arith, c.in_ok-m.ensures.low, c.in_ok-m.ensures.high, c.in_ok-n.ensures.reads.low, c.in_ok-n.ensures.reads.high, c.in_ok-n.ensures.past refl, c.in_ok-c.ensures.low, c.in_ok-c.ensures.high, c.in_err-p.ensures.low, c.in_err-p.ensures.high, c.in_ok-m.ensures.low, c.in_ok-n.ensures.reads.low, c.in_ok-c.ensures.low, c.in_err-p.ensures.low)))) refl (λ a _. goes_with _ (any_value (c.in_ok-n.ensures.reads.tells (suc k) (omega (arith, c.in_ok-m.ensures.low, c.in_ok-m.ensures.high, c.in_ok-n.ensures.reads.low, c.in_ok-n.ensures.reads.high, c.in_ok-n.ensures.past refl, c.in_ok-c.ensures.low, c.in_ok-c.ensures.high, c.in_err-p.ensures.low, c.in_err-p.ensures.high, c.in_ok-m.ensures.low, c.in_ok-n.ensures.reads.low, c.in_ok-c.ensures.low, c.in_err-p.ensures.low)))) refl (λ b _. goes_with _ (any_value (c.in_ok-c.ensures.tells (suc k) (omega (arith, c.in_ok-m.ensures.low, c.in_ok-m.ensures.high, c.in_ok-n.ensures.reads.low, c.in_ok-n.ensures.reads.high, c.in_ok-n.ensures.past refl, c.in_ok-c.ensures.low, c.in_ok-c.ensures.high, c.in_err-p.ensures.low, c.in_err-p.ensures.high, c.in_ok-m.ensures.low, c.in_ok-n.ensures.reads.low, c.in_ok-c.ensures.low, c.in_err-p.ensures.low)))) refl (λ d _. ends_with _ (operations-as k _ _ _ _ q.left (c.in_err-p.ensures.brings s.seen q.kinds k (omega (arith, c.in_ok-m.ensures.low, c.in_ok-m.ensures.high, c.in_ok-n.ensures.reads.low, c.in_ok-n.ensures.reads.high, c.in_ok-n.ensures.past refl, c.in_ok-c.ensures.low, c.in_ok-c.ensures.high, c.in_err-p.ensures.low, c.in_err-p.ensures.high, c.in_ok-m.ensures.low, c.in_ok-n.ensures.reads.low, c.in_ok-c.ensures.low, c.in_err-p.ensures.low, c.in_ok-n.ensures.past refl)))) (λ os z. tt)))) })

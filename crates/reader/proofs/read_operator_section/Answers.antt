@@ -1,27 +1,25 @@
 -- `reader::read_operator_section` meets its contract.
+use Rattle.std.proofs.lemmas.Result.{err_from_is_err_and}
+use Rattle.reader.proofs.Laws.{not_none}
+use mathlib.Core.Path.{refl}
 use native.Mathlib.Omega.{arith}
 use Rattle.reader.proofs.Laws.{any_value, ends_with, faulty, goes, goes_with, stops}
 use Rattle.reader.proofs.SectionLaws.{kept-operators, name-as}
 use Rattle.syntax.specs.Sections.{operator_section}
 use Rattle.reader.proofs.read_operator_section.Goals as goal
 
-pub returns-then-o-ne0 : goal.returns-then-o-ne0
+pub returns-in_err-o : goal.returns-in_err-o
 unfolding operator_section
-returns-then-o-ne0 c = record { low = omega (arith); high = omega (arith); past = λ e. absurd (c.if-o-ne0.true e); brings = λ s q k h. faulty (stops _ (name-as _ _ _ q.left (c.read_one_name-o.ensures.yields.brings k h)).tells c.if-o-ne0.true) c.if-o-ne0.true }
+returns-in_err-o c = let p = err_from_is_err_and c.from_residual.result c.from_residual.ensures.1 in rw (p.1, p.2) (record { low = omega (arith, c.in_err-o.ensures.yields.low, c.in_err-o.ensures.yields.high); high = omega (arith, c.in_err-o.ensures.yields.low, c.in_err-o.ensures.yields.high); past = λ e. absurd ((not_none _) e); brings = λ s q k h. faulty (stops _ (name-as _ _ _ q.left (c.in_err-o.ensures.yields.brings k h)).tells (not_none _)) (not_none _) })
 
-pub overflow_sub-rest : goal.overflow_sub-rest
-overflow_sub-rest c = omega (arith, c.read_one_name-o.ensures.some c.if-o-ne0.false)
-
-pub expect_word-c-requires : goal.expect_word-c-requires
-expect_word-c-requires c = omega arith
-
-pub returns-then-c-ne0 : goal.returns-then-c-ne0
+pub returns-in_err-c : goal.returns-in_err-c
 unfolding operator_section
-returns-then-c-ne0 c = record { low = omega (arith); high = omega (arith); past = λ e. absurd (c.if-c-ne0.true e); brings = λ s q k h. faulty (goes _ (name-as _ _ _ q.left (c.read_one_name-o.ensures.yields.brings k h)).tells c.if-o-ne0.false (λ a. stops _ (c.expect_word-c.ensures.tells k (omega arith)) c.if-c-ne0.true)) c.if-c-ne0.true }
-
-pub read_operators-out-requires : goal.read_operators-out-requires
-read_operators-out-requires c = omega arith
+returns-in_err-c c = let p = err_from_is_err_and c.from_residual-in_err-c.result c.from_residual-in_err-c.ensures.1 in rw (p.1, p.2) (record { low = omega (arith, c.in_ok-o.ensures.yields.low, c.in_err-c.ensures.low, c.in_err-c.ensures.high); high = omega (arith, c.in_ok-o.ensures.yields.low, c.in_err-c.ensures.low, c.in_err-c.ensures.high); past = λ e. absurd ((not_none _) e); brings = λ s q k h. faulty (goes _ (name-as _ _ _ q.left (c.in_ok-o.ensures.yields.brings k h)).tells refl (λ a. stops _ (c.in_err-c.ensures.tells k (omega (arith, c.in_ok-o.ensures.yields.low, c.in_ok-o.ensures.yields.high, c.in_ok-o.ensures.yields.past refl, c.in_ok-o.ensures.some refl, c.in_err-c.ensures.low, c.in_err-c.ensures.high))) (not_none _))) (not_none _) })
 
 pub returns : goal.returns
 unfolding operator_section
-returns c = record { low = omega (arith, c.read_one_name-o.ensures.yields.low, c.expect_word-c.ensures.low, c.read_operators-out.ensures.reads.low); high = omega (arith, c.read_one_name-o.ensures.yields.low, c.expect_word-c.ensures.low, c.read_operators-out.ensures.reads.low); past = λ e. omega (arith, c.read_one_name-o.ensures.yields.low, c.expect_word-c.ensures.low, c.read_operators-out.ensures.past e); brings = λ s q k h. goes_with _ (name-as _ _ _ q.left (c.read_one_name-o.ensures.yields.brings k h)) c.if-o-ne0.false (λ w _. goes_with _ (any_value (c.expect_word-c.ensures.tells k (omega arith))) c.if-c-ne0.false (λ d _. ends_with _ (any_value (c.read_operators-out.ensures.reads.tells k (omega (arith, c.read_one_name-o.ensures.yields.low, c.expect_word-c.ensures.low)))) (λ os z. kept-operators s c.args.state w os q))) }
+returns c = record { low = omega (arith, c.in_ok-o.ensures.yields.low, c.in_ok-o.ensures.yields.high, c.in_ok-o.ensures.yields.past refl, c.in_ok-o.ensures.some refl, c.in_ok-c.ensures.low, c.in_ok-c.ensures.high, c.in_ok-r.ensures.reads.low, c.in_ok-r.ensures.reads.high, c.in_ok-r.ensures.past refl, c.in_ok-o.ensures.yields.low, c.in_ok-c.ensures.low, c.in_ok-r.ensures.reads.low); high = omega (arith, c.in_ok-o.ensures.yields.low, c.in_ok-o.ensures.yields.high, c.in_ok-o.ensures.yields.past refl, c.in_ok-o.ensures.some refl, c.in_ok-c.ensures.low, c.in_ok-c.ensures.high, c.in_ok-r.ensures.reads.low, c.in_ok-r.ensures.reads.high, c.in_ok-r.ensures.past refl, c.in_ok-o.ensures.yields.low, c.in_ok-c.ensures.low, c.in_ok-r.ensures.reads.low); past = λ e. omega (arith, c.in_ok-o.ensures.yields.low, c.in_ok-o.ensures.yields.high, c.in_ok-o.ensures.yields.past refl, c.in_ok-o.ensures.some refl, c.in_ok-c.ensures.low, c.in_ok-c.ensures.high, c.in_ok-r.ensures.reads.low, c.in_ok-r.ensures.reads.high, c.in_ok-r.ensures.past refl, c.in_ok-o.ensures.yields.low, c.in_ok-c.ensures.low, c.in_ok-r.ensures.past e); brings = λ s q k h. goes_with _ (name-as _ _ _ q.left (c.in_ok-o.ensures.yields.brings k h)) refl (λ w _. goes_with _ (any_value (c.in_ok-c.ensures.tells k (omega (arith, c.in_ok-o.ensures.yields.low, c.in_ok-o.ensures.yields.high, c.in_ok-o.ensures.yields.past refl, c.in_ok-o.ensures.some refl, c.in_ok-c.ensures.low, c.in_ok-c.ensures.high, c.in_ok-r.ensures.reads.low, c.in_ok-r.ensures.reads.high, c.in_ok-r.ensures.past refl)))) refl (λ d _. ends_with _ (any_value (c.in_ok-r.ensures.reads.tells k (omega (arith, c.in_ok-o.ensures.yields.low, c.in_ok-o.ensures.yields.high, c.in_ok-o.ensures.yields.past refl, c.in_ok-o.ensures.some refl, c.in_ok-c.ensures.low, c.in_ok-c.ensures.high, c.in_ok-r.ensures.reads.low, c.in_ok-r.ensures.reads.high, c.in_ok-r.ensures.past refl, c.in_ok-o.ensures.yields.low, c.in_ok-c.ensures.low)))) (λ os z. kept-operators s c.args.state w os q))) }
+
+pub returns-in_err-r : goal.returns-in_err-r
+unfolding operator_section
+returns-in_err-r c = let p = err_from_is_err_and c.from_residual-in_err-r.result c.from_residual-in_err-r.ensures.1 in rw (p.1, p.2) (record { low = omega (arith, c.in_ok-o.ensures.yields.low, c.in_ok-o.ensures.yields.high, c.in_ok-o.ensures.yields.past refl, c.in_ok-o.ensures.some refl, c.in_ok-c.ensures.low, c.in_ok-c.ensures.high, c.in_err-r.ensures.reads.low, c.in_err-r.ensures.reads.high, c.in_ok-o.ensures.yields.low, c.in_ok-c.ensures.low, c.in_err-r.ensures.reads.low); high = omega (arith, c.in_ok-o.ensures.yields.low, c.in_ok-o.ensures.yields.high, c.in_ok-o.ensures.yields.past refl, c.in_ok-o.ensures.some refl, c.in_ok-c.ensures.low, c.in_ok-c.ensures.high, c.in_err-r.ensures.reads.low, c.in_err-r.ensures.reads.high, c.in_ok-o.ensures.yields.low, c.in_ok-c.ensures.low, c.in_err-r.ensures.reads.low); past = λ e. absurd (not_none _ e); brings = λ s q k h. goes_with _ (name-as _ _ _ q.left (c.in_ok-o.ensures.yields.brings k h)) refl (λ w _. goes_with _ (any_value (c.in_ok-c.ensures.tells k (omega (arith, c.in_ok-o.ensures.yields.low, c.in_ok-o.ensures.yields.high, c.in_ok-o.ensures.yields.past refl, c.in_ok-o.ensures.some refl, c.in_ok-c.ensures.low, c.in_ok-c.ensures.high, c.in_err-r.ensures.reads.low, c.in_err-r.ensures.reads.high)))) refl (λ d _. ends_with _ (any_value (c.in_err-r.ensures.reads.tells k (omega (arith, c.in_ok-o.ensures.yields.low, c.in_ok-o.ensures.yields.high, c.in_ok-o.ensures.yields.past refl, c.in_ok-o.ensures.some refl, c.in_ok-c.ensures.low, c.in_ok-c.ensures.high, c.in_err-r.ensures.reads.low, c.in_err-r.ensures.reads.high, c.in_ok-o.ensures.yields.low, c.in_ok-c.ensures.low)))) (λ os z. tt))) })

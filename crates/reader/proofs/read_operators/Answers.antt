@@ -1,4 +1,6 @@
 -- `reader::read_operators` meets its contract.
+use Rattle.std.proofs.lemmas.Result.{err_from_is_err_and}
+use Rattle.reader.proofs.Laws.{not_none}
 use mathlib.Core.Path.{refl}
 use native.Mathlib.Omega.{arith}
 use Prim.Native.Nat.{suc}
@@ -9,23 +11,17 @@ use Rattle.reader.proofs.read_operators.Goals as goal
 pub loop-r-init : goal.loop-r-init
 loop-r-init c = (omega arith, omega arith, λ o e. e)
 
-pub read_operator-r-requires : goal.read_operator-r-requires
-read_operator-r-requires c = omega arith
-
-pub returns-then-r-ne0 : goal.returns-then-r-ne0
+pub returns-in_err-r : goal.returns-in_err-r
 unfolding some_operators
-returns-then-r-ne0 c = c.loop-r.invariant.2 _ (record { reads = record { low = omega arith; high = omega arith; tells = fueled (λ k. some_operators k) (omega arith) (λ j h. stops _ (c.read_operator-r.ensures.reads.tells (suc j) (omega arith)) c.if-r-ne0.true) }; past = λ e. absurd (c.if-r-ne0.true e) })
-
-pub look-w-requires : goal.look-w-requires
-look-w-requires c = omega arith
+returns-in_err-r c = let p = err_from_is_err_and c.from_residual.result c.from_residual.ensures.1 in rw (p.1, p.2) (c.loop-r.invariant.2 _ (record { reads = record { low = omega (arith, c.in_err-r.ensures.reads.low, c.in_err-r.ensures.reads.high); high = omega (arith, c.in_err-r.ensures.reads.low, c.in_err-r.ensures.reads.high); tells = fueled (λ k. some_operators k) (omega (arith, c.in_err-r.ensures.reads.low, c.in_err-r.ensures.reads.high)) (λ j h. stops _ (c.in_err-r.ensures.reads.tells (suc j) (omega (arith, c.in_err-r.ensures.reads.low, c.in_err-r.ensures.reads.high))) (not_none _)) }; past = λ e. absurd ((not_none _) e) }))
 
 pub returns-then-w-eq-SEMICOLON : goal.returns-then-w-eq-SEMICOLON
 unfolding some_operators
-returns-then-w-eq-SEMICOLON c = c.loop-r.invariant.2 _ (record { reads = record { low = omega arith; high = omega arith; tells = fueled (λ k. some_operators k) (omega arith) (λ j h. goes _ (c.read_operator-r.ensures.reads.tells (suc j) (omega arith)) c.if-r-ne0.false (λ a. ends _ (yes _ _ _ c.look-w.ensures c.if-w-eq-SEMICOLON.true (passes _ c.look-w.ensures (omega arith) (gives refl))))) }; past = λ e. omega (arith, c.look-w.ensures.moves (omega arith)) })
+returns-then-w-eq-SEMICOLON c = c.loop-r.invariant.2 _ (record { reads = record { low = omega (arith, c.in_ok-r.ensures.reads.low, c.in_ok-r.ensures.reads.high, c.in_ok-r.ensures.past refl); high = omega (arith, c.in_ok-r.ensures.reads.low, c.in_ok-r.ensures.reads.high, c.in_ok-r.ensures.past refl); tells = fueled (λ k. some_operators k) (omega (arith, c.in_ok-r.ensures.reads.low, c.in_ok-r.ensures.reads.high, c.in_ok-r.ensures.past refl)) (λ j h. goes _ (c.in_ok-r.ensures.reads.tells (suc j) (omega (arith, c.in_ok-r.ensures.reads.low, c.in_ok-r.ensures.reads.high, c.in_ok-r.ensures.past refl))) refl (λ a. ends _ (yes _ _ _ c.look-w.ensures c.if-w-eq-SEMICOLON.true (passes _ c.look-w.ensures (omega (arith, c.in_ok-r.ensures.reads.low, c.in_ok-r.ensures.reads.high, c.in_ok-r.ensures.past refl)) (gives refl))))) }; past = λ e. omega (arith, c.in_ok-r.ensures.reads.low, c.in_ok-r.ensures.reads.high, c.in_ok-r.ensures.past refl, c.look-w.ensures.moves (omega (arith, c.in_ok-r.ensures.reads.low, c.in_ok-r.ensures.reads.high, c.in_ok-r.ensures.past refl))) })
 
 pub loop-r-smaller : goal.loop-r-smaller
-loop-r-smaller c = omega (arith, c.read_operator-r.ensures.past c.if-r-ne0.false)
+loop-r-smaller c = omega (arith, c.in_ok-r.ensures.reads.low, c.in_ok-r.ensures.reads.high, c.in_ok-r.ensures.past refl, c.in_ok-r.ensures.past refl)
 
 pub loop-r-preserved : goal.loop-r-preserved
 unfolding some_operators
-loop-r-preserved c = (omega arith, omega arith, λ o u. c.loop-r.invariant.2 o (record { reads = record { low = omega (arith, u.reads.low); high = u.reads.high; tells = fueled (λ k. some_operators k) (omega arith) (λ j h. goes _ (c.read_operator-r.ensures.reads.tells (suc j) (omega arith)) c.if-r-ne0.false (λ a. ends _ (no _ _ _ c.look-w.ensures c.if-w-eq-SEMICOLON.false (u.reads.tells j (omega (arith, c.read_operator-r.ensures.past c.if-r-ne0.false)))))) }; past = λ e. omega (arith, u.reads.low, c.read_operator-r.ensures.past c.if-r-ne0.false) }))
+loop-r-preserved c = (omega (arith, c.in_ok-r.ensures.reads.low, c.in_ok-r.ensures.reads.high, c.in_ok-r.ensures.past refl), omega (arith, c.in_ok-r.ensures.reads.low, c.in_ok-r.ensures.reads.high, c.in_ok-r.ensures.past refl), λ o u. c.loop-r.invariant.2 o (record { reads = record { low = omega (arith, c.in_ok-r.ensures.reads.low, c.in_ok-r.ensures.reads.high, c.in_ok-r.ensures.past refl, u.reads.low); high = u.reads.high; tells = fueled (λ k. some_operators k) (omega (arith, c.in_ok-r.ensures.reads.low, c.in_ok-r.ensures.reads.high, c.in_ok-r.ensures.past refl)) (λ j h. goes _ (c.in_ok-r.ensures.reads.tells (suc j) (omega (arith, c.in_ok-r.ensures.reads.low, c.in_ok-r.ensures.reads.high, c.in_ok-r.ensures.past refl))) refl (λ a. ends _ (no _ _ _ c.look-w.ensures c.if-w-eq-SEMICOLON.false (u.reads.tells j (omega (arith, c.in_ok-r.ensures.reads.low, c.in_ok-r.ensures.reads.high, c.in_ok-r.ensures.past refl, c.in_ok-r.ensures.past refl)))))) }; past = λ e. omega (arith, c.in_ok-r.ensures.reads.low, c.in_ok-r.ensures.reads.high, c.in_ok-r.ensures.past refl, u.reads.low, c.in_ok-r.ensures.past refl) }))

@@ -1,8 +1,7 @@
 -- `reader::read_operators` meets its contract.
 use Prim.Native.Nat.{◌-◌, ◌≤◌}
 use lib.ListN.{length}
-use Rattle.reader.specs.Answers.{Moves}
-use Rattle.reader.specs.declared.Out.{Out}
+use Rattle.reader.specs.Answers.{Out, Moves}
 use Rattle.syntax.specs.Sections.{some_operators}
 use Rattle.reader.proofs.read_operators.Given as goal
 

@@ -1,4 +1,6 @@
 -- `reader::read_part` meets its contract.
+use Rattle.std.proofs.lemmas.Result.{err_from_is_err_and}
+use Rattle.reader.proofs.Laws.{not_none}
 use mathlib.Core.Path.{refl, ◌∙◌}
 use Prim.Native.Nat.{◌+◌}
 use native.Mathlib.Omega.{arith}
@@ -9,28 +11,18 @@ use Rattle.reader.proofs.TextLaws.{behind, closes-off, closes-on, first_word, se
 use Rattle.syntax.specs.Texts.{a_part, read_part}
 use Rattle.reader.proofs.read_part.Goals as goal
 
--- `reader::read_part` meets its contract.
-pub expect_word-k-requires : goal.expect_word-k-requires
-expect_word-k-requires c = omega arith
-
-pub returns-then-k-ne0 : goal.returns-then-k-ne0
+pub returns-in_err-k : goal.returns-in_err-k
 unfolding read_part a_part
-returns-then-k-ne0 c = rw (from_start c.args.text.now) (settles-off (stops _ (c.expect_word-k.ensures.tells (length c.args.text.now + 1) (omega arith)) c.if-k-ne0.true) c.if-k-ne0.true)
+returns-in_err-k c = let p = err_from_is_err_and c.from_residual.result c.from_residual.ensures.1 in rw (p.1, p.2) (rw (from_start c.args.text.now) (settles-off (stops _ (c.in_err-k.ensures.tells (length c.args.text.now + 1) (omega (arith, c.in_err-k.ensures.low, c.in_err-k.ensures.high))) (not_none _)) (not_none _)))
 
-pub read_rules-r-requires : goal.read_rules-r-requires
-read_rules-r-requires c = omega arith
-
-pub returns-then-r-ne0 : goal.returns-then-r-ne0
+pub returns-in_err-r : goal.returns-in_err-r
 unfolding read_part a_part
-returns-then-r-ne0 c = rw (from_start c.args.text.now) (settles_on _ (any_value (c.expect_word-k.ensures.tells (length c.args.text.now + 1) (omega arith))) c.if-k-ne0.false (λ w _ e. settles-off (stops _ (rules-as _ _ _ _ _ c.smaller-m.ensures refl (c.read_rules-r.ensures.tells (length c.args.text.now + 1) (omega arith))) c.if-r-ne0.true) c.if-r-ne0.true))
+returns-in_err-r c = let p = err_from_is_err_and c.from_residual-in_err-r.result c.from_residual-in_err-r.ensures.1 in rw (p.1, p.2) (rw (from_start c.args.text.now) (settles_on _ (any_value (c.in_ok-k.ensures.tells (length c.args.text.now + 1) (omega (arith, c.in_ok-k.ensures.low, c.in_ok-k.ensures.high, c.in_err-r.ensures.low, c.in_err-r.ensures.high)))) refl (λ w _ e. settles-off (stops _ (rules-as _ _ _ _ _ c.min-m.ensures refl (c.in_err-r.ensures.tells (length c.args.text.now + 1) (omega (arith, c.in_ok-k.ensures.low, c.in_ok-k.ensures.high, c.in_err-r.ensures.low, c.in_err-r.ensures.high)))) (not_none _)) (not_none _))))
 
-pub read_end-e-requires : goal.read_end-e-requires
-read_end-e-requires c = omega arith
-
-pub returns-then-e-ne0 : goal.returns-then-e-ne0
+pub returns-in_err-read_end : goal.returns-in_err-read_end
 unfolding read_part a_part
-returns-then-e-ne0 c = rw (from_start c.args.text.now) (settles_on _ (any_value (c.expect_word-k.ensures.tells (length c.args.text.now + 1) (omega arith))) c.if-k-ne0.false (λ w _ e. settles_on _ (any_value (rules-as _ _ _ _ _ c.smaller-m.ensures refl (c.read_rules-r.ensures.tells (length c.args.text.now + 1) (omega arith)))) c.if-r-ne0.false (λ rs _ f. closes-off rs _ c.read_end-e.ensures c.if-e-ne0.true)))
+returns-in_err-read_end c = let p = err_from_is_err_and c.from_residual-in_err-read_end.result c.from_residual-in_err-read_end.ensures.1 in rw (p.1, p.2) (rw (from_start c.args.text.now) (settles_on _ (any_value (c.in_ok-k.ensures.tells (length c.args.text.now + 1) (omega (arith, c.in_ok-k.ensures.low, c.in_ok-k.ensures.high, c.in_ok-r.ensures.low, c.in_ok-r.ensures.high)))) refl (λ w _ e. settles_on _ (any_value (rules-as _ _ _ _ _ c.min-m.ensures refl (c.in_ok-r.ensures.tells (length c.args.text.now + 1) (omega (arith, c.in_ok-k.ensures.low, c.in_ok-k.ensures.high, c.in_ok-r.ensures.low, c.in_ok-r.ensures.high))))) refl (λ rs _ f. closes-off rs _ c.in_err-read_end.ensures (not_none _)))))
 
 pub returns : goal.returns
 unfolding read_part a_part
-returns c = rw (from_start c.args.text.now) (settles_on _ (any_value (c.expect_word-k.ensures.tells (length c.args.text.now + 1) (omega arith))) c.if-k-ne0.false (λ w _ e. settles_on _ (any_value (rules-as _ _ _ _ _ c.smaller-m.ensures refl (c.read_rules-r.ensures.tells (length c.args.text.now + 1) (omega arith)))) c.if-r-ne0.false (λ rs _ f. closes-on rs _ c.read_end-e.ensures c.if-e-ne0.false c.if-k-ne0.false (record { some = behind c.args.text.now _ w (first_word _ _ w e); inside = omega arith; keyword = w; first = from_start c.args.text.now ∙ first_word _ _ w e; rest = _; reads = f }))))
+returns c = rw (from_start c.args.text.now) (settles_on _ (any_value (c.in_ok-k.ensures.tells (length c.args.text.now + 1) (omega (arith, c.in_ok-k.ensures.low, c.in_ok-k.ensures.high, c.in_ok-r.ensures.low, c.in_ok-r.ensures.high)))) refl (λ w _ e. settles_on _ (any_value (rules-as _ _ _ _ _ c.min-m.ensures refl (c.in_ok-r.ensures.tells (length c.args.text.now + 1) (omega (arith, c.in_ok-k.ensures.low, c.in_ok-k.ensures.high, c.in_ok-r.ensures.low, c.in_ok-r.ensures.high))))) refl (λ rs _ f. closes-on rs _ c.in_ok-read_end.ensures refl refl (record { some = behind c.args.text.now _ w (first_word _ _ w e); inside = omega (arith, c.in_ok-k.ensures.low, c.in_ok-k.ensures.high, c.in_ok-r.ensures.low, c.in_ok-r.ensures.high); keyword = w; first = from_start c.args.text.now ∙ first_word _ _ w e; rest = _; reads = f }))))

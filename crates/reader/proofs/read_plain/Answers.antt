@@ -5,10 +5,6 @@ use Rattle.reader.proofs.Laws.{apart, constants, ends, gives, no, one-or-two-not
 use Rattle.syntax.specs.Actions.{a_plain}
 use Rattle.reader.proofs.read_plain.Goals as goal
 
--- `reader::read_plain` meets its contract.
-pub with_constant-requires : goal.with_constant-requires
-with_constant-requires c = c.requires
-
 pub returns-in-257 : goal.returns-in-257
 unfolding a_plain
 returns-in-257 c = record { reads = record { low = omega arith; high = omega arith; tells = λ k h. yes _ _ _ c.requires c.in-257.is (constants _ _ (c.with_constant.ensures.reads.tells k h)) }; past = λ e. c.with_constant.ensures.past e }

@@ -1,4 +1,7 @@
 -- `reader::read_program` meets its contract.
+use Rattle.std.proofs.lemmas.Result.{err_from_is_err_and}
+use Rattle.reader.proofs.Laws.{not_none}
+use mathlib.Core.Path.{refl}
 use Prim.Native.Nat.{◌+◌}
 use native.Mathlib.Omega.{arith}
 use lib.ListN.{length}
@@ -8,30 +11,18 @@ use Rattle.syntax.specs.Parse.{program}
 use Rattle.syntax.specs.Sections.{nothing}
 use Rattle.reader.proofs.read_program.Goals as goal
 
-pub read_sections-s-requires : goal.read_sections-s-requires
-read_sections-s-requires c = omega arith
-
-pub returns-then-o-ne0 : goal.returns-then-o-ne0
+pub returns-in_err-s : goal.returns-in_err-s
 unfolding program
-returns-then-o-ne0 c = rw (from_start c.args.text.now) (decides-off (stops _ (c.read_sections-s.ensures.brings nothing c.no_section.ensures (length c.args.text.now + 1) (omega arith)).tells c.if-o-ne0.true) c.if-o-ne0.true)
+returns-in_err-s c = let p = err_from_is_err_and c.from_residual.result c.from_residual.ensures.1 in rw (p.1, p.2) (rw (from_start c.args.text.now) (decides-off (stops _ (c.in_err-s.ensures.brings nothing c.no_section.ensures (length c.args.text.now + 1) (omega (arith, c.in_err-s.ensures.low, c.in_err-s.ensures.high))).tells (not_none _)) (not_none _)))
 
-pub expect_word-e-requires : goal.expect_word-e-requires
-expect_word-e-requires c = omega arith
-
-pub returns-then-e-ne0 : goal.returns-then-e-ne0
+pub returns-in_err-e : goal.returns-in_err-e
 unfolding program
-returns-then-e-ne0 c = rw (from_start c.args.text.now) (decides-on _ (c.read_sections-s.ensures.brings nothing c.no_section.ensures (length c.args.text.now + 1) (omega arith)) c.if-o-ne0.false (λ s e. decides-off (stops _ (c.expect_word-e.ensures.tells (length c.args.text.now + 1) (omega arith)) c.if-e-ne0.true) c.if-e-ne0.true))
+returns-in_err-e c = let p = err_from_is_err_and c.from_residual-in_err-e.result c.from_residual-in_err-e.ensures.1 in rw (p.1, p.2) (rw (from_start c.args.text.now) (decides-on _ (c.in_ok-s.ensures.brings nothing c.no_section.ensures (length c.args.text.now + 1) (omega (arith, c.in_ok-s.ensures.low, c.in_ok-s.ensures.high, c.in_err-e.ensures.low, c.in_err-e.ensures.high))) refl (λ s e. decides-off (stops _ (c.in_err-e.ensures.tells (length c.args.text.now + 1) (omega (arith, c.in_ok-s.ensures.low, c.in_ok-s.ensures.high, c.in_err-e.ensures.low, c.in_err-e.ensures.high))) (not_none _)) (not_none _))))
 
-pub read_rules-r-requires : goal.read_rules-r-requires
-read_rules-r-requires c = omega arith
-
-pub returns-then-r-ne0 : goal.returns-then-r-ne0
+pub returns-in_err-r : goal.returns-in_err-r
 unfolding program
-returns-then-r-ne0 c = rw (from_start c.args.text.now) (decides-on _ (c.read_sections-s.ensures.brings nothing c.no_section.ensures (length c.args.text.now + 1) (omega arith)) c.if-o-ne0.false (λ s e. decides-on _ (any_value (c.expect_word-e.ensures.tells (length c.args.text.now + 1) (omega arith))) c.if-e-ne0.false (λ b _. decides-off (stops _ (rules-as _ _ _ _ _ c.smaller-m.ensures e (c.read_rules-r.ensures.tells (length c.args.text.now + 1) (omega arith))) c.if-r-ne0.true) c.if-r-ne0.true)))
-
-pub read_end-requires : goal.read_end-requires
-read_end-requires c = omega arith
+returns-in_err-r c = let p = err_from_is_err_and c.from_residual-in_err-r.result c.from_residual-in_err-r.ensures.1 in rw (p.1, p.2) (rw (from_start c.args.text.now) (decides-on _ (c.in_ok-s.ensures.brings nothing c.no_section.ensures (length c.args.text.now + 1) (omega (arith, c.in_ok-s.ensures.low, c.in_ok-s.ensures.high, c.in_ok-e.ensures.low, c.in_ok-e.ensures.high, c.in_err-r.ensures.low, c.in_err-r.ensures.high))) refl (λ s e. decides-on _ (any_value (c.in_ok-e.ensures.tells (length c.args.text.now + 1) (omega (arith, c.in_ok-s.ensures.low, c.in_ok-s.ensures.high, c.in_ok-e.ensures.low, c.in_ok-e.ensures.high, c.in_err-r.ensures.low, c.in_err-r.ensures.high)))) refl (λ b _. decides-off (stops _ (rules-as _ _ _ _ _ c.min-m.ensures e (c.in_err-r.ensures.tells (length c.args.text.now + 1) (omega (arith, c.in_ok-s.ensures.low, c.in_ok-s.ensures.high, c.in_ok-e.ensures.low, c.in_ok-e.ensures.high, c.in_err-r.ensures.low, c.in_err-r.ensures.high)))) (not_none _)) (not_none _)))))
 
 pub returns : goal.returns
 unfolding program
-returns c = rw (from_start c.args.text.now) (decides-on _ (c.read_sections-s.ensures.brings nothing c.no_section.ensures (length c.args.text.now + 1) (omega arith)) c.if-o-ne0.false (λ s e. decides-on _ (any_value (c.expect_word-e.ensures.tells (length c.args.text.now + 1) (omega arith))) c.if-e-ne0.false (λ b _. decides-on _ (any_value (rules-as _ _ _ _ _ c.smaller-m.ensures e (c.read_rules-r.ensures.tells (length c.args.text.now + 1) (omega arith)))) c.if-r-ne0.false (λ rs _. ends-whole _ _ c.read_end.ensures))))
+returns c = rw (from_start c.args.text.now) (decides-on _ (c.in_ok-s.ensures.brings nothing c.no_section.ensures (length c.args.text.now + 1) (omega (arith, c.in_ok-s.ensures.low, c.in_ok-s.ensures.high, c.in_ok-e.ensures.low, c.in_ok-e.ensures.high, c.in_ok-r.ensures.low, c.in_ok-r.ensures.high))) refl (λ s e. decides-on _ (any_value (c.in_ok-e.ensures.tells (length c.args.text.now + 1) (omega (arith, c.in_ok-s.ensures.low, c.in_ok-s.ensures.high, c.in_ok-e.ensures.low, c.in_ok-e.ensures.high, c.in_ok-r.ensures.low, c.in_ok-r.ensures.high)))) refl (λ b _. decides-on _ (any_value (rules-as _ _ _ _ _ c.min-m.ensures e (c.in_ok-r.ensures.tells (length c.args.text.now + 1) (omega (arith, c.in_ok-s.ensures.low, c.in_ok-s.ensures.high, c.in_ok-e.ensures.low, c.in_ok-e.ensures.high, c.in_ok-r.ensures.low, c.in_ok-r.ensures.high))))) refl (λ rs _. ends-whole _ _ c.read_end.ensures))))

@@ -1,9 +1,8 @@
 -- `reader::read_rules` meets its contract.
 use Prim.Native.Nat.{◌-◌, ◌≤◌}
 use lib.ListN.{length}
-use Rattle.reader.specs.Answers.{Reads}
+use Rattle.reader.specs.Answers.{Out, Reads}
 use Rattle.syntax.specs.Parse.{some_rules}
-use Rattle.reader.specs.declared.Out.{Out}
 use Rattle.reader.proofs.read_rules.Given as goal
 
 abbrev pub invariant-loop-r : goal.invariant-loop-r

@@ -5,21 +5,6 @@ use Rattle.reader.specs.Counting.{error_section, output_section, type_section}
 use Rattle.syntax.specs.Sections.{a_section}
 use Rattle.reader.proofs.read_section.Goals as goal
 
-pub read_tokens-requires : goal.read_tokens-requires
-read_tokens-requires c = omega arith
-
-pub read_outputs-requires : goal.read_outputs-requires
-read_outputs-requires c = omega arith
-
-pub read_errors-requires : goal.read_errors-requires
-read_errors-requires c = omega arith
-
-pub read_types-requires : goal.read_types-requires
-read_types-requires c = omega arith
-
-pub read_other-requires : goal.read_other-requires
-read_other-requires c = omega arith
-
 pub returns-in-260 : goal.returns-in-260
 unfolding a_section output_section error_section type_section
 returns-in-260 c = record { low = omega arith; high = omega arith; past = λ e. omega (arith, c.read_tokens.ensures.past e); brings = λ s q k h. yes-with _ _ _ c.look-w.ensures c.in-260.is (passes-with _ c.look-w.ensures (omega arith) (c.read_tokens.ensures.brings s q k (omega (arith, c.look-w.ensures.moves (omega arith))))) }

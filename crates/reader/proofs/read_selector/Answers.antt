@@ -9,9 +9,6 @@ pub returns-then-w-eq-AT : goal.returns-then-w-eq-AT
 unfolding a_selector
 returns-then-w-eq-AT c = record { low = omega arith; high = omega arith; tells = λ k h. yes _ _ _ c.look-w.ensures c.if-w-eq-AT.true (passes _ c.look-w.ensures (omega arith) (ends _ (c.read_name.ensures.reads.tells k (omega arith)))) }
 
-pub with_constant-requires : goal.with_constant-requires
-with_constant-requires c = c.look-w.ensures
-
 pub returns-then-w-eq-NAME : goal.returns-then-w-eq-NAME
 unfolding a_selector
 returns-then-w-eq-NAME c = record { low = omega arith; high = omega arith; tells = λ k h. no _ _ _ c.look-w.ensures c.if-w-eq-AT.false (yes _ _ _ c.look-w.ensures c.if-w-eq-NAME.true (constants _ _ (c.with_constant.ensures.reads.tells k h))) }

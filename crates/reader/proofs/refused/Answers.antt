@@ -3,7 +3,6 @@ use mathlib.Core.Path.{refl}
 use borrow.Author.Tests.{ne_eqb, eq-eqb}
 use Rattle.reader.proofs.refused.Goals as goal
 
--- `reader::refused` meets its contract.
 pub returns-then-w-eq-BAD : goal.returns-then-w-eq-BAD
 returns-then-w-eq-BAD c = record { number = simp (eq-eqb c.args.w.kind 0 c.if-w-eq-BAD.true); place = refl; size = refl }
 

@@ -2,8 +2,8 @@
 use Rattle.resolver.proofs.Looking.{class-there, class-nowhere}
 use Rattle.resolver.proofs.class_named.Goals as goal
 
-pub returns-then-i-lt-NONE : goal.returns-then-i-lt-NONE
-returns-then-i-lt-NONE c = class-there _ _ _ c.find_row-i.ensures.tells c.if-i-lt-NONE.true
+pub returns-in-Some : goal.returns-in-Some
+returns-in-Some c = class-there _ _ c.in-Some.i c.in-Some.ensures.same
 
-pub returns : goal.returns
-returns c = class-nowhere _ _ _ c.find_row-i.ensures.tells c.if-i-lt-NONE.false
+pub returns-in-None : goal.returns-in-None
+returns-in-None c = class-nowhere _ _ c.in-None.ensures.same

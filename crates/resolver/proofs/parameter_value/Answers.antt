@@ -1,10 +1,14 @@
 -- `resolver::parameter_value` meets its contract.
-use mathlib.Core.Path.{refl}
+use mathlib.Core.Path.{refl, ap}
+use Rattle.base.specs.Faults.{fault_number}
+use Rattle.base.specs.declared.Fault.{Fault}
+use Rattle.resolver.proofs.Looking.{found-row, not-found}
 use Rattle.resolver.proofs.Rests.{value-stops, value-goes}
+use Rattle.symbols.proofs.Numbered.{fault-some}
 use Rattle.resolver.proofs.parameter_value.Goals as goal
 
-pub returns-then-v-ne0 : goal.returns-then-v-ne0
-returns-then-v-ne0 c = value-stops _ _ c.next_word-c.ensures c.requires.0 (c.value_of-v.ensures.looks _) c.if-v-ne0.true refl refl refl refl
+pub returns-in-Err : goal.returns-in-Err
+returns-in-Err c = value-stops _ _ c.next_word-c.ensures c.requires.0 (not-found (c.in-Err.ensures.looks _)) (fault-some c.in-Err.fault) (ap (λ (f : Fault). fault_number f) c.refused.ensures.0) c.refused.ensures.1 c.refused.ensures.2 refl
 
-pub returns : goal.returns
-returns c = value-goes _ _ c.next_word-c.ensures c.requires.0 (c.value_of-v.ensures.looks _) _ c.next_word-e.ensures c.if-v-ne0.false refl refl refl refl c.value_of-v.ensures.low
+pub returns-in-Ok : goal.returns-in-Ok
+returns-in-Ok c = value-goes _ _ c.next_word-c.ensures c.requires.0 (found-row (c.in-Ok.ensures.looks _)) _ c.next_word-e.ensures refl refl refl refl refl c.in-Ok.ensures.low

@@ -33,14 +33,6 @@ overflow_add-i-in-loop-k-2 c = omega (arith, c.requires.0.inside, c.loop-k-test.
 pub put_row-requires : goal.put_row-requires
 put_row-requires c = omega (arith, c.requires.0.few, c.loop-k-test.true, c.loop-k.invariant.1)
 
--- src/lib.rt:67:9
-pub overflow_add-k : goal.overflow_add-k
-overflow_add-k c = omega (arith, c.requires.0.few, c.loop-k-test.true)
-
--- src/lib.rt:56:5
-pub loop-k-smaller : goal.loop-k-smaller
-loop-k-smaller c = omega (arith, c.loop-k-test.true)
-
 -- src/lib.rt:56:5
 pub loop-k-preserved : goal.loop-k-preserved
 loop-k-preserved c = (omega (arith, c.loop-k-test.true), search rules ∙ c.loop-k.invariant.1, written-more c.loop-k.invariant.2 (row_put (omega (arith, c.requires.0.few, c.loop-k-test.true, c.loop-k.invariant.1)) c.put_row.ensures) refl c.cell.ensures c.cell-in-loop-k.ensures refl)

@@ -7,6 +7,3 @@ use Rattle.rulerows.proofs.put_written.Given as goal
 
 abbrev pub invariant-loop-k : goal.invariant-loop-k
 invariant-loop-k l = (l.k ≤ l.rules) × (length l.sheet ≡ 770) × WrittenPut l.rows l.first l.places l.k l.sheet
-
-abbrev pub decreases-loop-k : goal.decreases-loop-k
-decreases-loop-k l = l.rules - l.k

@@ -11,7 +11,7 @@ pub returns-then-b-eq33 : goal.returns-then-b-eq33
 returns-then-b-eq33 c = spells _ 124 1 (bar-is (get_or c.args.text.now c.args.at 0) c.if-b-eq33.true) c.found.ensures (omega arith) (omega arith)
 
 pub returns-then-is_symbol : goal.returns-then-is_symbol
-returns-then-is_symbol c = spells _ c.byte_word.result 1 (symbol-is (get_or c.args.text.now c.args.at 0) c.if-b-eq33.false (sym c.is_symbol.ensures ∙ c.if-is_symbol.true) ∙ ap (λ (k : ℕ). found k 1) (sym c.byte_word.ensures.0)) c.found-then-is_symbol.ensures (omega arith) (omega arith)
+returns-then-is_symbol c = spells _ c.from.result 1 (symbol-is (get_or c.args.text.now c.args.at 0) c.if-b-eq33.false (sym c.is_symbol.ensures ∙ c.if-is_symbol.true) ∙ ap (λ (k : ℕ). found k 1) (sym c.from.ensures)) c.found-then-is_symbol.ensures (omega arith) (omega arith)
 
 pub returns : goal.returns
 returns c = spells _ 0 1 (no_symbol (get_or c.args.text.now c.args.at 0) c.if-b-eq33.false (sym c.is_symbol.ensures ∙ c.if-is_symbol.false)) c.found-2.ensures (omega arith) (omega arith)

@@ -8,7 +8,7 @@ pub returns-then-text-at : goal.returns-then-text-at
 returns-then-text-at c = use-none _ _ _ _ _ c.if-text-at.true
 
 pub overflow_cast-start : goal.overflow_cast-start
-overflow_cast-start c = record { fits = omega (arith, c.back-start.ensures, (c.read_words-u.ensures.inside (omega (arith, c.if-text-at.false))).0, c.requires) }
+overflow_cast-start c = record { fits = omega (arith, c.saturating_sub-start.ensures, (c.read_words-u.ensures.inside (omega (arith, c.if-text-at.false))).0, c.requires) }
 
 pub overflow_cast-u : goal.overflow_cast-u
 overflow_cast-u c = record { fits = omega (arith, (c.read_words-u.ensures.inside (omega (arith, c.if-text-at.false))).0, c.requires) }
@@ -20,4 +20,4 @@ pub put_name-requires : goal.put_name-requires
 put_name-requires c = ((c.read_words-u.ensures.inside (omega (arith, c.if-text-at.false))).2, omega (arith, c.requires))
 
 pub returns : goal.returns
-returns c = use-put c.read_words-u.ensures (omega (arith, c.if-text-at.false)) c.back-start.ensures c.put_two-a.ensures c.put_name-b.ensures c.put_name.ensures
+returns c = use-put c.read_words-u.ensures (omega (arith, c.if-text-at.false)) c.saturating_sub-start.ensures c.put_two-a.ensures c.put_name-b.ensures c.put_name.ensures

@@ -6,7 +6,7 @@ use Rattle.separate.proofs.Objects.{fault-of, whole_of}
 use Rattle.separate.proofs.write_object.Goals as goal
 
 pub returns-then-r-ne0 : goal.returns-then-r-ne0
-returns-then-r-ne0 c = record { writes = λ s o names m i k q. fault-of c.args.p s k c.write_rules-r.ensures c.if-r-ne0.true (record { number_is = c.unwritten.ensures.0; text_is = c.unwritten.ensures.1; start_is = c.unwritten.ensures.2 ∙ c.back.ensures; len_is = c.unwritten.ensures.3 }) }
+returns-then-r-ne0 c = record { writes = λ s o names m i k q. fault-of c.args.p s k c.write_rules-r.ensures c.if-r-ne0.true (record { number_is = c.unwritten.ensures.0; text_is = c.unwritten.ensures.1; start_is = c.unwritten.ensures.2 ∙ c.saturating_sub.ensures; len_is = c.unwritten.ensures.3 }) }
 
 pub returns : goal.returns
 returns c =

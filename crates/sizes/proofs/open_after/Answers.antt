@@ -1,33 +1,29 @@
+use mathlib.Core.Logic.{inl, inr}
+use native.Mathlib.Omega.{arith}
 use borrow.Author.Tests.{lt-ltb, le-ltb, eq-eqb, ne_eqb}
+use Rattle.std.proofs.lemmas.Bool.Decides.{nat_tests}
 use Rattle.sizes.specs.Heads.{open_after}
 use Rattle.sizes.proofs.open_after.Goals as goal
 
--- src/lib.rt:174:9
-pub returns-then-k-eq-END : goal.returns-then-k-eq-END
+pub returns-in-0 : goal.returns-in-0
 unfolding open_after
-returns-then-k-eq-END c = simp (eq-eqb _ _ c.if-k-eq-END.true)
+returns-in-0 c = simp (eq-eqb c.args.k 0 c.in-0.is)
 
--- src/lib.rt:177:9
-pub returns-then-k-eq-CYCLE : goal.returns-then-k-eq-CYCLE
+pub returns-in-2 : goal.returns-in-2
 unfolding open_after
-returns-then-k-eq-CYCLE c = simp (ne_eqb _ _ c.if-k-eq-END.false, eq-eqb _ _ c.if-k-eq-CYCLE.true)
+returns-in-2 c = elim c.in-2.is [
+  | inl e ↦ simp (ne_eqb c.args.k 0 (λ z. omega (arith, e, z)), eq-eqb c.args.k 2 e)
+  | inr e ↦ simp (ne_eqb c.args.k 0 (λ z. omega (arith, e, z)), ne_eqb c.args.k 2 (λ z. omega (arith, e, z)), eq-eqb c.args.k 13 e)
+]
 
--- src/lib.rt:180:9
-pub returns-then-k-eq-OTHERWISE : goal.returns-then-k-eq-OTHERWISE
+pub returns-in-64-to-255 : goal.returns-in-64-to-255
 unfolding open_after
-returns-then-k-eq-OTHERWISE c = simp (ne_eqb _ _ c.if-k-eq-END.false, ne_eqb _ _ c.if-k-eq-CYCLE.false, eq-eqb _ _ c.if-k-eq-OTHERWISE.true)
+returns-in-64-to-255 c = simp (ne_eqb c.args.k 0 (λ z. omega arith), ne_eqb c.args.k 2 (λ z. omega arith), ne_eqb c.args.k 13 (λ z. omega arith), le-ltb c.args.k 64 (omega arith), lt-ltb c.args.k 256 (omega arith))
 
--- src/lib.rt:183:9
-pub returns-then-k-lt-ALTERNATIVE : goal.returns-then-k-lt-ALTERNATIVE
+pub returns-in_default : goal.returns-in_default
 unfolding open_after
-returns-then-k-lt-ALTERNATIVE c = simp (ne_eqb _ _ c.if-k-eq-END.false, ne_eqb _ _ c.if-k-eq-CYCLE.false, ne_eqb _ _ c.if-k-eq-OTHERWISE.false, lt-ltb _ _ c.if-k-lt-ALTERNATIVE.true)
+returns-in_default c = grind (arith, nat_tests)
 
--- src/lib.rt:169:1
-pub returns-then-k-lt-UPDATE : goal.returns-then-k-lt-UPDATE
+pub returns-in_default-2 : goal.returns-in_default-2
 unfolding open_after
-returns-then-k-lt-UPDATE c = simp (ne_eqb _ _ c.if-k-eq-END.false, ne_eqb _ _ c.if-k-eq-CYCLE.false, ne_eqb _ _ c.if-k-eq-OTHERWISE.false, le-ltb _ _ c.if-k-lt-ALTERNATIVE.false, lt-ltb _ _ c.if-k-lt-UPDATE.true)
-
--- src/lib.rt:169:1
-pub returns-else-k-lt-UPDATE : goal.returns-else-k-lt-UPDATE
-unfolding open_after
-returns-else-k-lt-UPDATE c = simp (ne_eqb _ _ c.if-k-eq-END.false, ne_eqb _ _ c.if-k-eq-CYCLE.false, ne_eqb _ _ c.if-k-eq-OTHERWISE.false, le-ltb _ _ c.if-k-lt-ALTERNATIVE.false, le-ltb _ _ c.if-k-lt-UPDATE.false)
+returns-in_default-2 c = simp (ne_eqb c.args.k 0 (λ z. omega arith), ne_eqb c.args.k 2 (λ z. omega arith), ne_eqb c.args.k 13 (λ z. omega arith), le-ltb c.args.k 64 (omega arith), le-ltb c.args.k 256 (omega arith))

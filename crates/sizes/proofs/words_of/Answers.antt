@@ -1,41 +1,35 @@
 use Prim.Native.Nat.{ℕ, ◌*◌}
 use mathlib.Core.Path.{ap, ◌∙◌}
+use native.Mathlib.Omega.{arith}
 use lib.ListN.{get_or}
 use borrow.Author.Tests.{lt-ltb, le-ltb}
 use Rattle.sizes.specs.Heads.{words_of, words_table}
 use Rattle.sizes.proofs.words_of.Goals as goal
 
--- src/lib.rt:200:9
-pub returns-then-k-lt-PAST : goal.returns-then-k-lt-PAST
+pub returns-in-0-to-14 : goal.returns-in-0-to-14
 unfolding words_of
-returns-then-k-lt-PAST c = simp (lt-ltb _ _ c.if-k-lt-PAST.true) (c.byte.ensures.0 ∙ ap (λ (i : ℕ). get_or words_table i 0) c.wide.ensures.0)
+returns-in-0-to-14 c = simp (lt-ltb c.args.k 15 (omega arith)) (c.from-in-0-to-14.ensures ∙ ap (λ (i : ℕ). get_or words_table i 0) c.from.ensures)
 
--- src/lib.rt:203:9
-pub returns-then-k-lt-ALTERNATIVE : goal.returns-then-k-lt-ALTERNATIVE
+pub returns-in-15-to-63 : goal.returns-in-15-to-63
 unfolding words_of
-returns-then-k-lt-ALTERNATIVE c = simp (le-ltb _ _ c.if-k-lt-PAST.false, lt-ltb _ _ c.if-k-lt-ALTERNATIVE.true)
+returns-in-15-to-63 c = simp (le-ltb c.args.k 15 (omega arith), lt-ltb c.args.k 64 (omega arith))
 
--- src/lib.rt:206:9
-pub returns-then-k-lt-UPDATE : goal.returns-then-k-lt-UPDATE
+pub returns-in-64-to-255 : goal.returns-in-64-to-255
 unfolding words_of
-returns-then-k-lt-UPDATE c = simp (le-ltb _ _ c.if-k-lt-PAST.false, le-ltb _ _ c.if-k-lt-ALTERNATIVE.false, lt-ltb _ _ c.if-k-lt-UPDATE.true) (ap (λ (i : ℕ). 2 * i) c.wide-then-k-lt-UPDATE.ensures.0)
+returns-in-64-to-255 c = simp (le-ltb c.args.k 15 (omega arith), le-ltb c.args.k 64 (omega arith), lt-ltb c.args.k 256 (omega arith)) (ap (λ (i : ℕ). 2 * i) c.from-in-64-to-255.ensures)
 
--- src/lib.rt:209:9
-pub returns-then-k-lt-UPDATE_WITH : goal.returns-then-k-lt-UPDATE_WITH
+pub returns-in-256-to-511 : goal.returns-in-256-to-511
 unfolding words_of
-returns-then-k-lt-UPDATE_WITH c = simp (le-ltb _ _ c.if-k-lt-PAST.false, le-ltb _ _ c.if-k-lt-ALTERNATIVE.false, le-ltb _ _ c.if-k-lt-UPDATE.false, lt-ltb _ _ c.if-k-lt-UPDATE_WITH.true)
+returns-in-256-to-511 c = simp (le-ltb c.args.k 15 (omega arith), le-ltb c.args.k 64 (omega arith), le-ltb c.args.k 256 (omega arith), lt-ltb c.args.k 512 (omega arith))
 
--- src/lib.rt:212:9
-pub returns-then-k-lt-ASK : goal.returns-then-k-lt-ASK
+pub returns-in-512-to-767 : goal.returns-in-512-to-767
 unfolding words_of
-returns-then-k-lt-ASK c = simp (le-ltb _ _ c.if-k-lt-PAST.false, le-ltb _ _ c.if-k-lt-ALTERNATIVE.false, le-ltb _ _ c.if-k-lt-UPDATE.false, le-ltb _ _ c.if-k-lt-UPDATE_WITH.false, lt-ltb _ _ c.if-k-lt-ASK.true)
+returns-in-512-to-767 c = simp (le-ltb c.args.k 15 (omega arith), le-ltb c.args.k 64 (omega arith), le-ltb c.args.k 256 (omega arith), le-ltb c.args.k 512 (omega arith), lt-ltb c.args.k 768 (omega arith))
 
--- src/lib.rt:196:1
-pub returns-then-k-lt-ASK_WITH : goal.returns-then-k-lt-ASK_WITH
+pub returns-in-768-to-1023 : goal.returns-in-768-to-1023
 unfolding words_of
-returns-then-k-lt-ASK_WITH c = simp (le-ltb _ _ c.if-k-lt-PAST.false, le-ltb _ _ c.if-k-lt-ALTERNATIVE.false, le-ltb _ _ c.if-k-lt-UPDATE.false, le-ltb _ _ c.if-k-lt-UPDATE_WITH.false, le-ltb _ _ c.if-k-lt-ASK.false, lt-ltb _ _ c.if-k-lt-ASK_WITH.true)
+returns-in-768-to-1023 c = simp (le-ltb c.args.k 15 (omega arith), le-ltb c.args.k 64 (omega arith), le-ltb c.args.k 256 (omega arith), le-ltb c.args.k 512 (omega arith), le-ltb c.args.k 768 (omega arith), lt-ltb c.args.k 1024 (omega arith))
 
--- src/lib.rt:196:1
-pub returns-else-k-lt-ASK_WITH : goal.returns-else-k-lt-ASK_WITH
+pub returns-in_default : goal.returns-in_default
 unfolding words_of
-returns-else-k-lt-ASK_WITH c = simp (le-ltb _ _ c.if-k-lt-PAST.false, le-ltb _ _ c.if-k-lt-ALTERNATIVE.false, le-ltb _ _ c.if-k-lt-UPDATE.false, le-ltb _ _ c.if-k-lt-UPDATE_WITH.false, le-ltb _ _ c.if-k-lt-ASK.false, le-ltb _ _ c.if-k-lt-ASK_WITH.false)
+returns-in_default c = simp (le-ltb c.args.k 15 (omega arith), le-ltb c.args.k 64 (omega arith), le-ltb c.args.k 256 (omega arith), le-ltb c.args.k 512 (omega arith), le-ltb c.args.k 768 (omega arith), le-ltb c.args.k 1024 (omega arith))

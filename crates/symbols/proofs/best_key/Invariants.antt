@@ -1,10 +1,7 @@
 -- `symbols::best_key` meets its contract.
-use Prim.Native.Nat.{◌-◌, ◌<◌}
+use Prim.Native.Nat.{◌<◌}
 use Rattle.symbols.specs.Index.{RowsKept}
 use Rattle.symbols.proofs.best_key.Given as goal
 
 abbrev pub invariant-loop-key : goal.invariant-loop-key
-invariant-loop-key l = (l.best < 65536) × (l.key < 65536) × RowsKept l.initial.rows l.rows
-
-abbrev pub decreases-loop-key : goal.decreases-loop-key
-decreases-loop-key l = 65536 - l.key
+invariant-loop-key l = (l.best < 65536) × RowsKept l.initial.rows l.rows

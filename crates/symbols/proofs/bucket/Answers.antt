@@ -2,43 +2,21 @@
 use mathlib.Core.Path.{sym, ap, ◌∙◌}
 use Prim.Native.Nat.{ℕ}
 use native.Mathlib.Omega.{arith}
-use Rattle.symbols.specs.Index.{hash_from}
-use Rattle.symbols.specs.Search.{part}
-use Rattle.symbols.proofs.Parts.{part-fits, part-byte, hash-more, bucket-end, product-low}
+use Rattle.symbols.specs.Index.{hash_from, bucket_of}
+use Rattle.symbols.proofs.Parts.{hash-more, bucket-end, product-low}
 use Rattle.symbols.proofs.bucket.Goals as goal
 
-pub part_len-n-requires : goal.part_len-n-requires
-part_len-n-requires c = tt
-
-pub seed-h-requires : goal.seed-h-requires
-seed-h-requires c = tt
-
-pub loop-i-init : goal.loop-i-init
-loop-i-init c = (omega arith, c.seed-h.ensures.low, ap (λ (h : ℕ). hash_from c.args.key h (part c.args.text.now c.args.start c.args.len)) c.seed-h.ensures.same)
+pub loop-b-init : goal.loop-b-init
+loop-b-init c = (c.seed-h.ensures.low, ap (λ (h : ℕ). hash_from c.args.key h c.part-b-items.result.now) c.seed-h.ensures.same)
 
 pub overflow_mul-h : goal.overflow_mul-h
-overflow_mul-h c = omega (arith, product-low c.loop-i.h c.args.key c.loop-i.invariant.1 c.requires)
-
-pub overflow_add-start : goal.overflow_add-start
-overflow_add-start c = omega (arith, c.loop-i-test.true, part-fits c.args.text.now c.args.start c.args.len c.part_len-n.result c.part_len-n.ensures)
-
-pub bounds-text-start : goal.bounds-text-start
-bounds-text-start c = omega (arith, c.loop-i-test.true, part-fits c.args.text.now c.args.start c.args.len c.part_len-n.result c.part_len-n.ensures)
-
-pub byte-requires : goal.byte-requires
-byte-requires c = tt
+overflow_mul-h c = omega (arith, product-low c.loop-b.h c.args.key c.loop-b.invariant.0 c.requires)
 
 pub overflow_add-h : goal.overflow_add-h
-overflow_add-h c = omega (arith, product-low c.loop-i.h c.args.key c.loop-i.invariant.1 c.requires, c.byte.ensures.1)
+overflow_add-h c = omega (arith, product-low c.loop-b.h c.args.key c.loop-b.invariant.0 c.requires, c.from.ensures, c.type_inv.b-items c.loop-b.b-index)
 
-pub overflow_add-i : goal.overflow_add-i
-overflow_add-i c = omega arith
+pub loop-b-preserved : goal.loop-b-preserved
+loop-b-preserved c = (omega arith, sym (hash-more c.args.key c.part-b-items.result.now c.loop-b.h c.loop-b.b-index c.from.result c.loop-b-test.true (sym c.from.ensures)) ∙ c.loop-b.invariant.1)
 
-pub loop-i-smaller : goal.loop-i-smaller
-loop-i-smaller c = omega arith
-
-pub loop-i-preserved : goal.loop-i-preserved
-loop-i-preserved c = (omega arith, omega arith, sym (hash-more c.args.key (part c.args.text.now c.args.start c.args.len) c.loop-i.h c.loop-i.i c.byte.result (omega (arith, c.loop-i-test.true, c.part_len-n.ensures)) (part-byte c.args.text.now c.args.start c.args.len c.loop-i.i (omega (arith, c.loop-i-test.true, c.part_len-n.ensures)) ∙ sym c.byte.ensures.0)) ∙ c.loop-i.invariant.2)
-
-pub returns : goal.returns
-returns c = record { value = bucket-end c.args.key c.args.class (part c.args.text.now c.args.start c.args.len) c.loop-i.h c.loop-i.i (omega (arith, c.loop-i-test.false, c.loop-i.invariant.0, c.part_len-n.ensures)) c.loop-i.invariant.2; upper_bound = omega arith }
+pub returns-clause-value : goal.returns-clause-value
+returns-clause-value c = bucket-end c.args.key c.args.class c.part-b-items.result.now c.loop-b.h c.loop-b.b-index (omega arith) c.loop-b.invariant.1 ∙ ap (bucket_of c.args.key c.args.class) c.part-b-items.ensures

@@ -10,9 +10,6 @@ clear_heads-requires c = (c.requires.0, c.requires.2)
 pub loop-i-init : goal.loop-i-init
 loop-i-init c = (omega arith, rows_same _, index-none c.args.text.now _ c.args.n c.clear_heads.ensures.keyed c.clear_heads.ensures.clear)
 
-pub overflow_sub-i : goal.overflow_sub-i
-overflow_sub-i c = omega arith
-
 pub push_second-requires : goal.push_second-requires
 push_second-requires c = ((c.loop-i.invariant.1.size ∙ (c.clear_heads.ensures.kept.size ∙ c.requires.0)), c.requires.2, omega (arith, c.loop-i-test.true, c.loop-i.invariant.0, c.requires.1))
 

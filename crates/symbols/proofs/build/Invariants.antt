@@ -6,6 +6,3 @@ use Rattle.symbols.proofs.build.Given as goal
 
 abbrev pub invariant-loop-i : goal.invariant-loop-i
 invariant-loop-i l = (l.i ≤ l.n) × RowsKept l.initial.rows l.rows × IndexedFrom l.key l.text l.rows (2 * l.i) l.n
-
-abbrev pub decreases-loop-i : goal.decreases-loop-i
-decreases-loop-i l = l.i

@@ -9,10 +9,10 @@ pub returns-then-is_name : goal.returns-then-is_name
 unfolding declares
 returns-then-is_name c = rw (← c.is_name.ensures, c.if-is_name.true) refl
 
-pub returns-then-number-eq-OPERATION : goal.returns-then-number-eq-OPERATION
+pub returns-then-number-ne-OPERATION : goal.returns-then-number-ne-OPERATION
 unfolding declares
-returns-then-number-eq-OPERATION c = rw (← c.is_name.ensures, c.if-is_name.false, class-at, ← c.number.ensures.0, eq-eqb _ 6 c.if-number-eq-OPERATION.true) refl
+returns-then-number-ne-OPERATION c = rw (← c.is_name.ensures, c.if-is_name.false, class-at, ← c.number.ensures.0, ne_eqb _ 6 c.if-number-ne-OPERATION.true) c.is_second.ensures
 
-pub returns : goal.returns
+pub returns-else-number-ne-OPERATION : goal.returns-else-number-ne-OPERATION
 unfolding declares
-returns c = rw (← c.is_name.ensures, c.if-is_name.false, class-at, ← c.number.ensures.0, ne_eqb _ 6 c.if-number-eq-OPERATION.false) c.is_second.ensures
+returns-else-number-ne-OPERATION c = rw (← c.is_name.ensures, c.if-is_name.false, class-at, ← c.number.ensures.0, eq-eqb _ 6 c.if-number-ne-OPERATION.false) refl

@@ -7,6 +7,6 @@ pub returns-then-is_declared : goal.returns-then-is_declared
 unfolding elsewhere_in
 returns-then-is_declared c = rw (← c.is_declared.ensures, c.if-is_declared.true) refl
 
-pub returns : goal.returns
+pub returns-else-is_declared : goal.returns-else-is_declared
 unfolding elsewhere_in
-returns c = rw (← c.is_declared.ensures, c.if-is_declared.false) refl
+returns-else-is_declared c = rw (← c.is_declared.ensures, c.if-is_declared.false) refl

@@ -1,12 +1,12 @@
 -- `symbols::find_value` meets its contract.
-use mathlib.Core.Path.{◌≡◌, refl, sym, ◌∙◌}
+use mathlib.Core.Path.{◌≡◌, sym, ◌∙◌}
 use native.Mathlib.Omega.{arith}
 use Rattle.symbols.specs.Rows.{decl_at}
 use Rattle.symbols.specs.Index.{bucket_of, key_of}
 use Rattle.symbols.specs.Search.{part}
 use Rattle.symbols.proofs.Along.{along-start, along-end, along-past, along-hit, along-miss, nodes-left, known_among}
 use Rattle.symbols.proofs.Parts.{bucket-low}
-use Rattle.symbols.proofs.Searches.{by_value, tells-there, tells-nowhere, both_told}
+use Rattle.symbols.proofs.Searches.{by_value, answers-there, answers-nowhere}
 use Rattle.symbols.proofs.find_value.Goals as goal
 
 pub first_node-p-requires : goal.first_node-p-requires
@@ -19,7 +19,7 @@ pub overflow_sub-i : goal.overflow_sub-i
 overflow_sub-i c = let d : (c.loop-p.p ≡ 0 → ⊥) = c.loop-p-test.true in omega arith
 
 pub returns-then-n-i : goal.returns-then-n-i
-returns-then-n-i c = record { same = (both_told (tells-nowhere _ _ (along-past (by_value c.args.class (part c.args.text.now c.args.start c.args.len)) c.args.text.now c.args.rows.now c.args.n c.loop-p-test.true c.if-n-i.true c.loop-p.invariant.1) refl)).0; tells = (both_told (tells-nowhere _ _ (along-past (by_value c.args.class (part c.args.text.now c.args.start c.args.len)) c.args.text.now c.args.rows.now c.args.n c.loop-p-test.true c.if-n-i.true c.loop-p.invariant.1) refl)).1 }
+returns-then-n-i c = record { same = answers-nowhere _ (along-past (by_value c.args.class (part c.args.text.now c.args.start c.args.len)) c.args.text.now c.args.rows.now c.args.n c.loop-p-test.true c.if-n-i.true c.loop-p.invariant.1); low = tt }
 
 pub knows-requires : goal.knows-requires
 knows-requires c = omega (arith, c.if-n-i.false, c.requires.few)
@@ -35,7 +35,7 @@ number-requires c = tt
 
 pub returns-then-knows : goal.returns-then-knows
 unfolding decl_at
-returns-then-knows c = record { same = (both_told (tells-there _ _ _ (along-hit (by_value c.args.class (part c.args.text.now c.args.start c.args.len)) c.args.text.now c.args.rows.now c.args.n c.loop-p-test.true c.if-n-i.false (sym c.knows.ensures ∙ c.if-knows.true) c.loop-p.invariant.1) c.number.ensures.0 c.number.ensures.1)).0; tells = (both_told (tells-there _ _ _ (along-hit (by_value c.args.class (part c.args.text.now c.args.start c.args.len)) c.args.text.now c.args.rows.now c.args.n c.loop-p-test.true c.if-n-i.false (sym c.knows.ensures ∙ c.if-knows.true) c.loop-p.invariant.1) c.number.ensures.0 c.number.ensures.1)).1 }
+returns-then-knows c = record { same = answers-there _ _ _ (along-hit (by_value c.args.class (part c.args.text.now c.args.start c.args.len)) c.args.text.now c.args.rows.now c.args.n c.loop-p-test.true c.if-n-i.false (sym c.knows.ensures ∙ c.if-knows.true) c.loop-p.invariant.1) c.number.ensures.0; low = c.number.ensures.1 }
 
 pub next_node-p-requires : goal.next_node-p-requires
 next_node-p-requires c = (let d : (c.loop-p.p ≡ 0 → ⊥) = c.loop-p-test.true in omega arith, c.loop-p.invariant.0)
@@ -47,4 +47,4 @@ pub loop-p-preserved : goal.loop-p-preserved
 loop-p-preserved c = (c.next_node-p.ensures.low, along-miss (by_value c.args.class (part c.args.text.now c.args.start c.args.len)) c.args.text.now c.args.rows.now c.args.n c.loop-p-test.true (sym c.knows.ensures ∙ c.if-knows.false) c.next_node-p.ensures.same c.loop-p.invariant.1)
 
 pub returns : goal.returns
-returns c = record { same = (both_told (tells-nowhere _ _ (along-end (by_value c.args.class (part c.args.text.now c.args.start c.args.len)) c.args.text.now c.args.rows.now c.args.n c.loop-p-test.false c.loop-p.invariant.1) refl)).0; tells = (both_told (tells-nowhere _ _ (along-end (by_value c.args.class (part c.args.text.now c.args.start c.args.len)) c.args.text.now c.args.rows.now c.args.n c.loop-p-test.false c.loop-p.invariant.1) refl)).1 }
+returns c = record { same = answers-nowhere _ (along-end (by_value c.args.class (part c.args.text.now c.args.start c.args.len)) c.args.text.now c.args.rows.now c.args.n c.loop-p-test.false c.loop-p.invariant.1); low = tt }

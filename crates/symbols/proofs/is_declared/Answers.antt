@@ -6,22 +6,13 @@ use Rattle.symbols.proofs.Searches.{by_word, start, hit, miss, end}
 use Rattle.symbols.proofs.is_declared.Goals as goal
 
 pub loop-i-init : goal.loop-i-init
-loop-i-init c = (omega arith, start (by_word (part c.args.text.now c.args.start c.args.len)) c.args.text.now c.args.rows.now c.args.n)
-
-pub declares-requires : goal.declares-requires
-declares-requires c = omega (arith, c.loop-i-test.true, c.requires.few)
+loop-i-init c = start (by_word (part c.args.text.now c.args.start c.args.len)) c.args.text.now c.args.rows.now c.args.n
 
 pub returns-then-declares : goal.returns-then-declares
-returns-then-declares c = sym (c.loop-i.invariant.1 ∙ hit (by_word (part c.args.text.now c.args.start c.args.len)) c.args.text.now c.args.rows.now c.loop-i.i c.args.n c.loop-i-test.true (sym c.declares.ensures ∙ c.if-declares.true))
-
-pub overflow_add-i : goal.overflow_add-i
-overflow_add-i c = omega arith
-
-pub loop-i-smaller : goal.loop-i-smaller
-loop-i-smaller c = omega arith
+returns-then-declares c = sym (c.loop-i.invariant ∙ hit (by_word (part c.args.text.now c.args.start c.args.len)) c.args.text.now c.args.rows.now c.loop-i.i c.args.n c.loop-i-test.true (sym c.declares.ensures ∙ c.if-declares.true))
 
 pub loop-i-preserved : goal.loop-i-preserved
-loop-i-preserved c = (omega arith, c.loop-i.invariant.1 ∙ miss (by_word (part c.args.text.now c.args.start c.args.len)) c.args.text.now c.args.rows.now c.loop-i.i c.args.n c.loop-i-test.true (sym c.declares.ensures ∙ c.if-declares.false))
+loop-i-preserved c = c.loop-i.invariant ∙ miss (by_word (part c.args.text.now c.args.start c.args.len)) c.args.text.now c.args.rows.now c.loop-i.i c.args.n c.loop-i-test.true (sym c.declares.ensures ∙ c.if-declares.false)
 
 pub returns : goal.returns
-returns c = sym (c.loop-i.invariant.1 ∙ end (by_word (part c.args.text.now c.args.start c.args.len)) c.args.text.now c.args.rows.now c.loop-i.i c.args.n (omega arith))
+returns c = sym (c.loop-i.invariant ∙ end (by_word (part c.args.text.now c.args.start c.args.len)) c.args.text.now c.args.rows.now c.loop-i.i c.args.n (omega arith))

@@ -5,10 +5,10 @@ use Rattle.names.specs.Known.{is_word}
 use Rattle.symbols.specs.Rows.{decl_at, option_of}
 use Rattle.symbols.proofs.is_second.Goals as goal
 
-pub returns-then-n-eq0 : goal.returns-then-n-eq0
+pub returns-then-n-ne0 : goal.returns-then-n-ne0
 unfolding decl_at option_of is_word
-returns-then-n-eq0 c = rw (eq-eqb _ 0 (sym c.number-n.ensures.0 ∙ c.if-n-eq0.true)) refl
+returns-then-n-ne0 c = rw (← c.number-n.ensures.0, ne_eqb _ 0 c.if-n-ne0.true, ← c.number.ensures.0) c.same_part.ensures
 
-pub returns : goal.returns
+pub returns-else-n-ne0 : goal.returns-else-n-ne0
 unfolding decl_at option_of is_word
-returns c = rw (← c.number-n.ensures.0, ne_eqb _ 0 c.if-n-eq0.false, ← c.number.ensures.0) c.same_part.ensures
+returns-else-n-ne0 c = rw (c.if-n-ne0.false, eq-eqb _ 0 (sym c.number-n.ensures.0 ∙ c.if-n-ne0.false)) refl

@@ -7,8 +7,8 @@ use Rattle.symbols.proofs.named.Goals as goal
 
 pub returns-then-number-class : goal.returns-then-number-class
 unfolding decl_at named
-returns-then-number-class c = rw (← c.number.ensures.0, ne_eqb _ _ c.if-number-class.true) refl
+returns-then-number-class c = rw (← c.number.ensures.0, eq-eqb _ _ c.if-number-class.true) c.is_name.ensures
 
-pub returns : goal.returns
+pub returns-else-number-class : goal.returns-else-number-class
 unfolding decl_at named
-returns c = rw (← c.number.ensures.0, eq-eqb _ _ c.if-number-class.false) c.is_name.ensures
+returns-else-number-class c = rw (← c.number.ensures.0, ne_eqb _ _ c.if-number-class.false) refl

@@ -1,3 +1,4 @@
+use Rattle.reader.proofs.Laws.{not_none}
 use borrow.Author.Rules.{rules}
 use borrow.Author.Tests.{not-true, not-false}
 use Rattle.translator.proofs.Steps.{refused-read}
@@ -8,13 +9,8 @@ use lib.Seq.{length-take-le}
 use mathlib.Core.Path.{sym}
 use Rattle.translator.proofs.process.Goals as goal
 
--- src/lib.rt:179:9
-pub returns-then-s-ne0 : goal.returns-then-s-ne0
-returns-then-s-ne0 c = refused-read _ c.check_syntax-s.ensures c.if-s-ne0.true c.refuse.ensures
-
--- src/lib.rt:182:9
-pub translate-t-requires : goal.translate-t-requires
-translate-t-requires c = (text-read c.check_syntax-s.ensures c.if-s-ne0.false, search rules)
+pub returns-in-Err : goal.returns-in-Err
+returns-in-Err c = refused-read _ c.in-Err.ensures (not_none _) (rw c.from.ensures at c.refuse.ensures)
 
 -- src/lib.rt:184:9
 pub returns-then-not-t : goal.returns-then-not-t

@@ -4,7 +4,7 @@ use Rattle.walker.proofs.Laws.{Sought}
 use Rattle.walker.proofs.labelled.Given as goal
 
 abbrev pub invariant-loop-at : goal.invariant-loop-at
-invariant-loop-at l = Sought l.t l.b l.labels l.x l.at
+invariant-loop-at l = Sought l.t l.fn.labels.first l.fn.labels.count l.x l.at
 
 abbrev pub decreases-loop-at : goal.decreases-loop-at
 decreases-loop-at l = l.end - l.at

@@ -10,4 +10,4 @@ use Rattle.walker.proofs.length_of.Goals as goal
 pub returns : goal.returns
 returns c =
     let a = c.args in
-    ap (λ (l : List ℕ). get_or l (a.ins - 1) 0) c.requires.0 ∙ sym (length-entry a.ins (omega arith) (omega arith))
+    rw c.from.ensures (ap (λ (l : List ℕ). get_or l (a.ins - 1) 0) c.requires.0 ∙ sym (length-entry a.ins (omega arith) (omega arith)))

@@ -25,12 +25,6 @@ pub bounds-s-i-2 : goal.bounds-s-i-2
 unfolding count
 bounds-s-i-2 c = omega arith
 
-pub overflow_mul-result : goal.overflow_mul-result
-overflow_mul-result c = omega arith
-
-pub overflow_add-result : goal.overflow_add-result
-overflow_add-result c = omega arith
-
 pub returns : goal.returns
 unfolding word_at count swapped
-returns c = omega arith
+returns c = omega (arith, c.from_le_bytes.ensures)

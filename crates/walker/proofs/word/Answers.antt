@@ -1,7 +1,6 @@
 -- `word` meets its contract.
 use native.Mathlib.Omega.{arith}
 use Rattle.machine.specs.Bytes.{count, word_at}
-use borrow.Author.Rules.{rules}
 use Rattle.walker.proofs.word.Goals as goal
 
 -- `word` meets its contract.
@@ -12,9 +11,6 @@ overflow_mul-i c = omega arith
 pub bounds-s-i : goal.bounds-s-i
 unfolding count
 bounds-s-i c = omega arith
-
-pub overflow_mul-result : goal.overflow_mul-result
-overflow_mul-result c = omega arith
 
 pub overflow_mul-i-2 : goal.overflow_mul-i-2
 unfolding count
@@ -28,9 +24,6 @@ pub bounds-s-i-2 : goal.bounds-s-i-2
 unfolding count
 bounds-s-i-2 c = omega arith
 
-pub overflow_add-result : goal.overflow_add-result
-overflow_add-result c = omega arith
-
 pub returns : goal.returns
 unfolding word_at count
-returns c = search rules
+returns c = omega (arith, c.from_be_bytes.ensures)

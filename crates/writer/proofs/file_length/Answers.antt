@@ -1,8 +1,8 @@
 -- `writer::file_length` meets its contract.
+use native.Mathlib.Omega.{arith}
 use Rattle.writer.specs.Storing.{file_length}
-use borrow.Author.Rules.{rules}
 use Rattle.writer.proofs.file_length.Goals as goal
 
 pub returns : goal.returns
 unfolding file_length
-returns c = search rules
+returns c = omega (arith, c.div_ceil.ensures)

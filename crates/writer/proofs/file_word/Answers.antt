@@ -8,5 +8,5 @@ returns-then-j-lt-RECORDS_AT c = header_at _ c.args.verdict c.args.n c.requires.
 pub record_word-requires : goal.record_word-requires
 record_word-requires c = (c.requires.0, record-inside _ c.args.verdict c.args.n c.requires.0 c.args.j c.if-j-lt-RECORDS_AT.false c.requires.2)
 
-pub returns : goal.returns
-returns c = record-at _ c.args.verdict c.args.n c.requires.0 c.record_word.result c.args.j c.if-j-lt-RECORDS_AT.false c.record_word.ensures
+pub returns-else-j-lt-RECORDS_AT : goal.returns-else-j-lt-RECORDS_AT
+returns-else-j-lt-RECORDS_AT c = record-at _ c.args.verdict c.args.n c.requires.0 c.record_word.result c.args.j c.if-j-lt-RECORDS_AT.false c.record_word.ensures

@@ -15,13 +15,13 @@ unfolding back_of
 returns-then-d-loc c =
     let a = c.args in
     let l = a.self.location in
-    let h : word_at a.t.now l ≤ l = omega (arith, c.word-d.ensures) in
-    simp (inside c.args.self.location c.if-n-loc.false c.requires.0 c.requires.2, le-leb _ _ h, c.moved.ensures, c.word-d.ensures)
+    let h : word_at a.t.now l ≤ l = omega (arith, c.from-d.ensures, c.word.ensures) in
+    simp (inside c.args.self.location c.if-n-loc.false c.requires.0 c.requires.2, le-leb _ _ h, c.moved.ensures, c.from-d.ensures, c.word.ensures)
 
 pub returns-else-d-loc : goal.returns-else-d-loc
 unfolding back_of
 returns-else-d-loc c =
     let a = c.args in
     let l = a.self.location in
-    let h : l < word_at a.t.now l = omega (arith, c.word-d.ensures) in
+    let h : l < word_at a.t.now l = omega (arith, c.from-d.ensures, c.word.ensures) in
     simp (inside c.args.self.location c.if-n-loc.false c.requires.0 c.requires.2, lt-leb _ _ h)

@@ -17,7 +17,7 @@ returns-then-to-n c =
     let a = c.args in
     let l = a.self.location in
     let h : l + 1 + word_at a.t.now l ≤ size a.t.now = omega (arith, c.word.ensures, c.requires.0) in
-    simp (inside c.args.self.location c.if-n-loc.false c.requires.0 c.requires.2, le-leb _ _ h, c.moved.ensures, c.word.ensures)
+    simp (inside c.args.self.location c.if-n-loc.false c.requires.0 c.requires.2, le-leb _ _ h, c.moved.ensures, c.from.ensures, c.word.ensures)
 
 pub returns-else-to-n : goal.returns-else-to-n
 unfolding forward_of

@@ -4,18 +4,19 @@ use Prim.Native.Nat.{◌≤◌, ◌<◌}
 use borrow.Author.Tests.{le-leb, lt-leb, eq-eqb, ne_eqb}
 use Rattle.walker.specs.Shape.{size}
 use Rattle.walker.specs.Shape.{step_of}
+use Rattle.walker.proofs.Registers.next.Goals.{then-at-eq0-via-then-at-eq0, then-at-eq0-via-else-at-eq0+then-n-at}
 use Rattle.walker.proofs.Registers.next.Goals as goal
 
 pub returns-then-at-eq0 : goal.returns-then-at-eq0
 unfolding step_of
-returns-then-at-eq0 c = simp (eq-eqb _ _ c.if-at-eq0.true)
-
-pub returns-then-n-at : goal.returns-then-n-at
-unfolding step_of
-returns-then-n-at c =
+returns-then-at-eq0 c =
     let a = c.args in
-    let h : size a.t.now < a.self.location = omega (arith, c.table_words-n.ensures, c.if-n-at.true) in
-    simp (ne_eqb a.self.location 0 c.if-at-eq0.false, lt-leb _ _ h)
+    elim c.then-at-eq0.branch [
+      | then-at-eq0-via-then-at-eq0 w ↦ simp (eq-eqb _ _ w.if-at-eq0.true)
+      | then-at-eq0-via-else-at-eq0+then-n-at w ↦
+          let h : size a.t.now < a.self.location = omega (arith, c.table_words-n.ensures, w.if-n-at.true) in
+          simp (ne_eqb a.self.location 0 w.if-at-eq0.false, lt-leb _ _ h)
+    ]
 
 pub returns : goal.returns
 unfolding step_of

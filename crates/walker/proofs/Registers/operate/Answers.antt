@@ -7,37 +7,37 @@ use Rattle.walker.specs.Shape.{operate_of}
 use Rattle.walker.proofs.Registers.operate.Goals as goal
 
 pub update-requires : goal.update-requires
-update-requires c = (c.requires.0, c.requires.1, c.instruction_length.ensures ∙ length-operation _ (omega (arith, c.if-ins-lt-UPDATE.false)) (omega (arith, c.if-ins-lt-UPDATE_WITH.true)))
+update-requires c = (c.requires.0, c.requires.1, c.instruction_length-len.ensures ∙ length-operation _ (omega arith) (omega arith))
 
-pub update-requires-then-ins-lt-ASK : goal.update-requires-then-ins-lt-ASK
-update-requires-then-ins-lt-ASK c = (c.requires.0, c.requires.1, c.instruction_length-then-ins-lt-ASK.ensures ∙ length-operation _ (omega (arith, c.if-ins-lt-UPDATE.false)) (omega (arith, c.if-ins-lt-ASK.true)))
+pub update-requires-in-512-to-767 : goal.update-requires-in-512-to-767
+update-requires-in-512-to-767 c = (c.requires.0, c.requires.1, c.instruction_length-len.ensures ∙ length-operation _ (omega arith) (omega arith))
 
 pub answer-requires : goal.answer-requires
-answer-requires c = (c.requires.0, c.requires.1, c.instruction_length-then-ins-lt-ASK_WITH.ensures ∙ length-operation _ (omega (arith, c.if-ins-lt-UPDATE.false)) (omega (arith, c.if-ins-lt-ASK_WITH.true)))
+answer-requires c = (c.requires.0, c.requires.1, c.instruction_length-len.ensures ∙ length-operation _ (omega arith) (omega arith))
 
-pub answer-requires-then-ins-lt-PAST_OPERATIONS : goal.answer-requires-then-ins-lt-PAST_OPERATIONS
-answer-requires-then-ins-lt-PAST_OPERATIONS c = (c.requires.0, c.requires.1, c.instruction_length-then-ins-lt-PAST_OPERATIONS.ensures ∙ length-operation _ (omega (arith, c.if-ins-lt-UPDATE.false)) (omega (arith, c.if-ins-lt-PAST_OPERATIONS.true)))
+pub answer-requires-in-1024-to-1279 : goal.answer-requires-in-1024-to-1279
+answer-requires-in-1024-to-1279 c = (c.requires.0, c.requires.1, c.instruction_length-len.ensures ∙ length-operation _ (omega arith) (omega arith))
 
-pub returns-then-ins-lt-UPDATE : goal.returns-then-ins-lt-UPDATE
+pub returns-in-256-to-511 : goal.returns-in-256-to-511
 unfolding operate_of
-returns-then-ins-lt-UPDATE c = simp (lt-ltb _ _ c.if-ins-lt-UPDATE.true)
+returns-in-256-to-511 c = simp (le-ltb c.args.ins 256 (omega arith), lt-ltb c.args.ins 512 (omega arith), c.update.ensures)
 
-pub returns-then-ins-lt-UPDATE_WITH : goal.returns-then-ins-lt-UPDATE_WITH
+pub returns-in-512-to-767 : goal.returns-in-512-to-767
 unfolding operate_of
-returns-then-ins-lt-UPDATE_WITH c = simp (le-ltb _ _ c.if-ins-lt-UPDATE.false, lt-ltb _ _ c.if-ins-lt-UPDATE_WITH.true) c.update.ensures
+returns-in-512-to-767 c = simp (le-ltb c.args.ins 256 (omega arith), le-ltb c.args.ins 512 (omega arith), lt-ltb c.args.ins 768 (omega arith), c.low_word.ensures, c.update-in-512-to-767.ensures)
 
-pub returns-then-ins-lt-ASK : goal.returns-then-ins-lt-ASK
+pub returns-in-768-to-1023 : goal.returns-in-768-to-1023
 unfolding operate_of
-returns-then-ins-lt-ASK c = simp (le-ltb _ _ c.if-ins-lt-UPDATE.false, le-ltb _ _ c.if-ins-lt-UPDATE_WITH.false, lt-ltb _ _ c.if-ins-lt-ASK.true, c.update-then-ins-lt-ASK.ensures, c.low_word.ensures)
+returns-in-768-to-1023 c = simp (le-ltb c.args.ins 256 (omega arith), le-ltb c.args.ins 512 (omega arith), le-ltb c.args.ins 768 (omega arith), lt-ltb c.args.ins 1024 (omega arith), c.answer.ensures)
 
-pub returns-then-ins-lt-ASK_WITH : goal.returns-then-ins-lt-ASK_WITH
+pub returns-in-1024-to-1279 : goal.returns-in-1024-to-1279
 unfolding operate_of
-returns-then-ins-lt-ASK_WITH c = simp (le-ltb _ _ c.if-ins-lt-UPDATE.false, le-ltb _ _ c.if-ins-lt-UPDATE_WITH.false, le-ltb _ _ c.if-ins-lt-ASK.false, lt-ltb _ _ c.if-ins-lt-ASK_WITH.true) c.answer.ensures
+returns-in-1024-to-1279 c = simp (le-ltb c.args.ins 256 (omega arith), le-ltb c.args.ins 512 (omega arith), le-ltb c.args.ins 768 (omega arith), le-ltb c.args.ins 1024 (omega arith), lt-ltb c.args.ins 1280 (omega arith), c.low_word.ensures, c.answer-in-1024-to-1279.ensures)
 
-pub returns-then-ins-lt-PAST_OPERATIONS : goal.returns-then-ins-lt-PAST_OPERATIONS
+pub returns-in_default : goal.returns-in_default
 unfolding operate_of
-returns-then-ins-lt-PAST_OPERATIONS c = simp (le-ltb _ _ c.if-ins-lt-UPDATE.false, le-ltb _ _ c.if-ins-lt-UPDATE_WITH.false, le-ltb _ _ c.if-ins-lt-ASK.false, le-ltb _ _ c.if-ins-lt-ASK_WITH.false, lt-ltb _ _ c.if-ins-lt-PAST_OPERATIONS.true, c.answer-then-ins-lt-PAST_OPERATIONS.ensures, c.low_word-then-ins-lt-PAST_OPERATIONS.ensures)
+returns-in_default c = simp (lt-ltb c.args.ins 256 (omega arith))
 
-pub returns-else-ins-lt-PAST_OPERATIONS : goal.returns-else-ins-lt-PAST_OPERATIONS
+pub returns-in_default-2 : goal.returns-in_default-2
 unfolding operate_of
-returns-else-ins-lt-PAST_OPERATIONS c = simp (le-ltb _ _ c.if-ins-lt-UPDATE.false, le-ltb _ _ c.if-ins-lt-UPDATE_WITH.false, le-ltb _ _ c.if-ins-lt-ASK.false, le-ltb _ _ c.if-ins-lt-ASK_WITH.false, le-ltb _ _ c.if-ins-lt-PAST_OPERATIONS.false)
+returns-in_default-2 c = simp (le-ltb c.args.ins 256 (omega arith), le-ltb c.args.ins 512 (omega arith), le-ltb c.args.ins 768 (omega arith), le-ltb c.args.ins 1024 (omega arith), le-ltb c.args.ins 1280 (omega arith))

@@ -13,4 +13,4 @@ returns-then-d-eq0 c = simp (eq-eqb _ _ c.if-d-eq0.true)
 
 pub returns : goal.returns
 unfolding return_of
-returns c = simp (ne_eqb c.args.self.depth 0 c.if-d-eq0.false, c.back_to.ensures, c.wide.ensures.0)
+returns c = simp (ne_eqb c.args.self.depth 0 c.if-d-eq0.false, c.back_to.ensures, c.from.ensures)

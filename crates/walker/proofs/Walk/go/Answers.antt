@@ -5,7 +5,7 @@ use Prim.Native.Nat.{ℕ, ◌-◌}
 use borrow.Enum.Refused.{opened}
 use Rattle.machine.specs.Bytes.{count}
 use Rattle.machine.specs.Lengths.{lengths}
-use Rattle.walker.specs.Shape.{go_of}
+use Rattle.walker.specs.Shape.{ending_number, go_of}
 use Rattle.walker.proofs.Go.{inv-as, kept, again-on, again-tells, again-pushes, others, ends, parts, spent}
 use Rattle.walker.proofs.Walk.go.Goals.{in-On, in-Tells, in-Push}
 use Rattle.walker.proofs.Walk.go.Goals as goal
@@ -68,6 +68,7 @@ pub shape_of-out : goal.shape_of-out
 shape_of-out c = c.loop-done.invariant.as_long
 
 pub returns : goal.returns
+unfolding ending_number
 returns c =
     let a = c.args in
     let l = c.loop-done in

@@ -2,4 +2,4 @@
 use Rattle.walker.proofs.Walk.ret.Goals as goal
 
 pub returns : goal.returns
-returns c = simp (c.with_registers.ensures, c.popped_to.ensures, c.wide.ensures.0)
+returns c = simp (c.with_registers.ensures, c.popped_to.ensures, c.from.ensures)

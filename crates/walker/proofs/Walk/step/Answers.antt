@@ -21,4 +21,4 @@ returns-in-Waiting c =
 pub returns-in-Stopped : goal.returns-in-Stopped
 returns-in-Stopped c =
     let a = c.args in
-    c.says-in-Stopped.ensures ∙ step-stops a.t.now a.tokens.now a.answers.now a.room a.paused a.self _ c.number_of.result c.in-Stopped.is c.number_of.ensures
+    c.says-in-Stopped.ensures ∙ step-stops a.t.now a.tokens.now a.answers.now a.room a.paused a.self _ c.in-Stopped.is

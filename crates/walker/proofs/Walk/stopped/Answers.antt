@@ -3,4 +3,4 @@ use mathlib.Core.Path.{refl}
 use Rattle.walker.proofs.Walk.stopped.Goals as goal
 
 pub returns : goal.returns
-returns c = rw (c.ended.ensures, c.number_of.ensures, c.in_phase.ensures) refl
+returns c = rw (c.ended.ensures, c.in_phase.ensures) refl

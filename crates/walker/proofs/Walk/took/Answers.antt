@@ -16,7 +16,7 @@ returns-in-Outside c = simp (c.in-Outside.is, c.says-in-Outside.ensures, c.in_ph
 
 pub returns-in-Stop : goal.returns-in-Stop
 unfolding took_of
-returns-in-Stop c = simp (c.in-Stop.is, c.says-in-Stop.ensures, c.number_of.ensures, c.in_phase-in-Stop.ensures)
+returns-in-Stop c = simp (c.in-Stop.is, c.says-in-Stop.ensures, c.in_phase-in-Stop.ensures)
 
 pub returns-in-On : goal.returns-in-On
 unfolding took_of
