@@ -4,10 +4,11 @@ use mathlib.Core.List.{List}
 use mathlib.Core.Logic.{◌⊎◌, inl, inr}
 use mathlib.Core.Option.{Option, none, some}
 use mathlib.Core.Path.{◌≡◌, refl, sym, ap, ◌∙◌}
-use Prim.Native.Nat.{ℕ, zero, suc, ◌-◌, ◌*◌, ◌/◌, ◌%◌, ◌≤◌, ◌<◌}
+use Prim.Native.Nat.{ℕ, zero, suc, ◌+◌, ◌-◌, ◌*◌, ◌/◌, ◌≤◌, ◌<◌}
 use lib.Dec.{eqb}
 use borrow.Author.Tests.{eqb-true, lt-ltb, le-ltb}
 use native.Mathlib.Omega.{arith}
+use Rattle.std.specs.Prelude.{Option as Answer, Some, None, IfSome, unwrap_or}
 use Rattle.base.proofs.Laws.{same-eq}
 use Rattle.base.specs.Bools.{never}
 use Rattle.base.specs.Common.{same}
@@ -15,31 +16,47 @@ use Rattle.declarations.specs.Decls.{Decl, feeds}
 use Rattle.names.specs.Known.{is_word}
 use Rattle.symbols.proofs.Chains.{least-none, least_more, Following, chain-least, to-node, no_more, found_at, not_at}
 use Rattle.symbols.proofs.Searches.{Search, start}
-use Rattle.symbols.specs.Index.{Chain, chain_end, chain_node, Among, head_at, link_at, next_of, seed_of, bucket_of, key_of, Indexed}
+use Rattle.symbols.specs.Index.{Chain, chain_end, chain_node, Among, head_at, link_at, next_of, seed_of, bucket_of, key_of, node_of, Indexed}
 use Rattle.symbols.specs.Rows.{decl_at, held}
 use Rattle.symbols.specs.Search.{serves, knows, named}
 use Rattle.words.specs.Words.{Word}
 
 -- nodes
 
-pub next_up : (rows : List ℕ) (p q : ℕ) → q ≡ link_at rows (p - 1) → p < q → q ≡ next_of rows p
+next_up : (rows : List ℕ) (p q : ℕ) → q ≡ link_at rows (p - 1) → p < q → q ≡ next_of rows p
 unfolding next_of
 next_up rows p q e l = rw (lt-ltb p (link_at rows (p - 1)) (omega (arith, e, l))) e
 
-pub next-end : (rows : List ℕ) (p q : ℕ) → q ≡ link_at rows (p - 1) → q ≤ p → 0 ≡ next_of rows p
+next-end : (rows : List ℕ) (p q : ℕ) → q ≡ link_at rows (p - 1) → q ≤ p → 0 ≡ next_of rows p
 unfolding next_of
 next-end rows p q e l = rw (le-ltb p (link_at rows (p - 1)) (omega (arith, e, l))) refl
 
+link-of : (rows : List ℕ) (k : ℕ) → link_at rows k ≡ link_at rows (k + 1 - 1)
+link-of rows k = let d : k ≡ k + 1 - 1 = omega arith in ap (link_at rows) d
+
+-- the node that the code goes on to
+pub node-up : (rows : List ℕ) (k q : ℕ) → q ≡ link_at rows k → k + 1 < q → node_of (Some (q - 1)) ≡ next_of rows (k + 1)
+node-up rows k q e l = let d : suc (q - 1) ≡ q = omega (arith, l) in d ∙ next_up rows (k + 1) q (e ∙ link-of rows k) l
+
+pub node-end : (rows : List ℕ) (k q : ℕ) → q ≡ link_at rows k → q ≤ k + 1 → node_of None ≡ next_of rows (k + 1)
+node-end rows k q e l = next-end rows (k + 1) q (e ∙ link-of rows k) l
+
 -- nodes run out
-pub nodes-left : (p q : ℕ) → (p ≡ 0 → ⊥) → p < 65536 → q < 65536 → (0 < q → p < q) → (65536 - q) % 65536 < (65536 - p) % 65536
-nodes-left p zero d l m up = less d
-  where
-    less : (p ≡ 0 → ⊥) → (65536 - 0) % 65536 < (65536 - p) % 65536
-    less x = omega (arith, l)
-nodes-left p (suc q) d l m up = less d (up (omega arith))
-  where
-    less : (p ≡ 0 → ⊥) → p < suc q → (65536 - suc q) % 65536 < (65536 - p) % 65536
-    less x y = omega (arith, l, m)
+abbrev pub nodes_left : Answer ℕ → ℕ
+nodes_left node = 65536 - unwrap_or node 65536
+
+pub nodes-fewer : {node : Answer ℕ} (next : Answer ℕ) {k : ℕ} → node ≡ Some k → IfSome node (λ k. k < 65535) → IfSome next (λ q. (k < q) × (q < 65535)) → nodes_left next < nodes_left node
+nodes-fewer next {k = k} e l u = rw e (go next (rw e at l) u) where
+  go : (next : Answer ℕ) → k < 65535 → IfSome next (λ q. (k < q) × (q < 65535)) → nodes_left next < 65536 - k
+  go None l u = omega (arith, l)
+  go (Some q) l u = omega (arith, l, u.0, u.1)
+
+pub nodes-most : (first : Answer ℕ) → 0 + nodes_left first ≤ 65536
+nodes-most first = omega arith
+
+pub node-low : (k : ℕ) (next : Answer ℕ) → IfSome next (λ q. (k < q) × (q < 65535)) → IfSome next (λ q. q < 65535)
+node-low k None u = tt
+node-low k (Some q) u = u.1
 
 -- along a chain it is the link
 next-link : (rows : List ℕ) (p k : ℕ) → p ≡ suc k → (link_at rows k ≡ 0) ⊎ (p < link_at rows k) → link_at rows k ≡ next_of rows p
@@ -82,41 +99,44 @@ module _ {X : Type 0} {F : ℕ → List Decl → X} {t : Decl → Bool} {h : ℕ
       go (chain_node d u q c) f = absurd (omega (arith, d, e))
 
   -- the row of the node is past the rows
-  pub along-past : {p : ℕ} → (p ≡ 0 → ⊥) → n ≤ (p - 1) / 2 → Along p → F 0 (held text rows n) ≡ z
-  along-past {p} d l a = no_more s text rows (chain-least n a.chain (inr (high d))) a.following
+  pub along-past : {p k : ℕ} → p ≡ suc k → n ≤ k / 2 → Along p → F 0 (held text rows n) ≡ z
+  along-past {p} {k} d l a = no_more s text rows (chain-least n a.chain (inr high)) a.following
     where
-      high : (p ≡ 0 → ⊥) → 2 * n < p
-      high x = omega (arith, l)
+      high : 2 * n < p
+      high = omega (arith, l, d)
 
-  pub along-hit : {p : ℕ} → (p ≡ 0 → ⊥) → (p - 1) / 2 < n → t (decl_at text rows ((p - 1) / 2)) ≡ true → Along p → F 0 (held text rows n) ≡ h ((p - 1) / 2) (decl_at text rows ((p - 1) / 2))
-  along-hit {p} d l e a = found_at s text rows l (to-node s text rows (low d a.ahead) (chain-least ((p - 1) / 2) a.chain (inr (high d))) a.following) e
+  pub along-hit : {p k : ℕ} → p ≡ suc k → k / 2 < n → t (decl_at text rows (k / 2)) ≡ true → Along p → F 0 (held text rows n) ≡ h (k / 2) (decl_at text rows (k / 2))
+  along-hit {p} {k} d l e a = found_at s text rows l (to-node s text rows (low a.ahead) (chain-least (k / 2) a.chain (inr high)) a.following) e
     where
-      high : (p ≡ 0 → ⊥) → 2 * ((p - 1) / 2) < p
-      high x = omega arith
+      high : 2 * (k / 2) < p
+      high = omega (arith, d)
 
-      low : (p ≡ 0 → ⊥) → (p ≡ 0) ⊎ (2 * a.lo < p) → a.lo ≤ (p - 1) / 2
-      low x (inl y) = absurd (x y)
-      low x (inr y) = omega (arith, y)
+      low : (p ≡ 0) ⊎ (2 * a.lo < p) → a.lo ≤ k / 2
+      low (inl y) = absurd (omega (arith, y, d))
+      low (inr y) = omega (arith, y, d)
 
-  pub along-miss : {p q : ℕ} → (p ≡ 0 → ⊥) → t (decl_at text rows ((p - 1) / 2)) ≡ false → q ≡ next_of rows p → Along p → Along q
-  along-miss {p} {q} d e g a = go a.chain a.following
+  pub along-miss : {p q j : ℕ} → p ≡ suc j → t (decl_at text rows (j / 2)) ≡ false → q ≡ next_of rows (j + 1) → Along p → Along q
+  along-miss {p} {q} {j} d e f₁ a = go a.chain a.following
     where
+      g : q ≡ next_of rows p
+      g = let i : j + 1 ≡ p = omega (arith, d) in f₁ ∙ ap (next_of rows) i
+
       low : (k : ℕ) → p ≡ suc k → (p ≡ 0) ⊎ (2 * a.lo < p) → a.lo ≤ k / 2
-      low k c (inl y) = absurd (d y)
+      low k c (inl y) = absurd (omega (arith, y, c))
       low k c (inr y) = omega (arith, y, c)
 
       go : {is : List ℕ} → Chain rows p is → Following s text rows n a.lo is → Along q
-      go (chain_end c) f = absurd (d c)
+      go (chain_end c) f = absurd (omega (arith, d, c))
       go (chain_node {k = k} {is = is} c u w more) f = record {
         lo = k / 2;
         rest = is;
         chain = rw (g ∙ sym (next-link rows p k c w)) more;
         ahead = rw (g ∙ sym (next-link rows p k c w)) (up w);
-        following = not_at s text rows (to-node s text rows (low k c a.ahead) (least_more (omega arith) (chain-least (k / 2) more (up w))) f) (ap (λ (j : ℕ). t (decl_at text rows j)) own ∙ e);
+        following = not_at s text rows (to-node s text rows (low k c a.ahead) (least_more (omega arith) (chain-least (k / 2) more (up w))) f) (ap (λ (i : ℕ). t (decl_at text rows i)) own ∙ e);
       }
         where
-          own : k / 2 ≡ (p - 1) / 2
-          own = omega (arith, c)
+          own : k / 2 ≡ j / 2
+          own = omega (arith, c, d)
 
           up : (link_at rows k ≡ 0) ⊎ (p < link_at rows k) → (link_at rows k ≡ 0) ⊎ (2 * (k / 2) < link_at rows k)
           up (inl y) = inl y

@@ -10,7 +10,7 @@ use native.Mathlib.Omega.{arith}
 use lib.Dec.{eqb}
 use borrow.Author.Tests.{eq-eqb, ne_eqb}
 use lib.ListN.{length, get_or}
-use Rattle.std.specs.Prelude.{if◌then◌else◌, Option as Answer, Some, None, IfSome, unwrap_or, is_some}
+use Rattle.std.specs.Prelude.{if◌then◌else◌, Option as Answer, Some, None, is_some}
 use Rattle.std.proofs.lemmas.Option.{none-some, same_Some}
 use Rattle.base.proofs.Laws.{lt-or-le}
 use Rattle.base.specs.Bools.{or₁, or₂}
@@ -161,33 +161,6 @@ answer-some {v = v} (some u) e = ap some (sym (same_Some v u e))
 pub answer-none : (o : Option ℕ) → None ≡ answer_of o → o ≡ none
 answer-none none e = refl
 answer-none (some u) e = absurd (none-some u e)
-
--- an answer as a number v, 65,536 for none
-pub answer-tells : {v : ℕ} {r : Answer ℕ} {o : Option ℕ} → v ≡ unwrap_or r 65536 → r ≡ answer_of o → IfSome r (λ v. v < 65536) → Tells v o
-answer-tells {v = v} {r = r} {o = o} = go r o where
-  go : (r : Answer ℕ) (o : Option ℕ) → v ≡ unwrap_or r 65536 → r ≡ answer_of o → IfSome r (λ v. v < 65536) → Tells v o
-  go None none q e l = nowhere q
-  go None (some u) q e l = absurd (none-some u e)
-  go (Some r) none q e l = absurd (none-some r (sym e))
-  go (Some r) (some u) q e l = there (q ∙ same_Some r u e) (omega (arith, same_Some r u e, l))
-
-pub answer-row : {v n : ℕ} {r : Answer ℕ} {o : Option ℕ} → v ≡ unwrap_or r 65536 → r ≡ answer_of o → IfSome r (λ i. i < n) → n ≤ 512 → Tells v o
-answer-row {n = n} {r = r} q e l h = answer-tells q e (go r l) where
-  go : (r : Answer ℕ) → IfSome r (λ i. i < n) → IfSome r (λ v. v < 65536)
-  go None l = tt
-  go (Some i) l = omega (arith, l, h)
-
-pub answer-below : {v n : ℕ} (r : Answer ℕ) → v ≡ unwrap_or r 65536 → IfSome r (λ i. i < n) → v < 65536 → v < n
-answer-below {v = v} {n = n} r = go r where
-  go : (r : Answer ℕ) → v ≡ unwrap_or r 65536 → IfSome r (λ i. i < n) → v < 65536 → v < n
-  go None q l h = absurd (omega (arith, q, h))
-  go (Some i) q l h = omega (arith, q, l)
-
-pub answer-number : {v : ℕ} {r : Answer ℕ} (o : Option ℕ) → v ≡ unwrap_or r 65536 → r ≡ answer_of o → v ≡ number_of o
-answer-number o q e = q ∙ rw e (go o) where
-  go : (o : Option ℕ) → unwrap_or (answer_of o) 65536 ≡ number_of o
-  go none = refl
-  go (some v) = refl
 
 pub answer-given : {r : Answer ℕ} (o : Option ℕ) → r ≡ answer_of o → is_some r ≡ given o
 answer-given o e = rw e (go o) where

@@ -2,6 +2,7 @@
 -- second word where k is odd; 0 is no node. A chain meets the rows whose classes and words have one hash, in the order of the row.
 use Rattle.std.specs.Prelude.{◌||◌, List, [], ◌∷◌, ◌⊎◌, ◌≡◌, ℕ, suc, ◌+◌, ◌*◌, ◌-◌, ◌/◌, ◌%◌, ◌<◌, ◌≤◌, eqb, ltb, length, get_or, set, if◌then◌else◌}
 use Rattle.std.proofs.Math.Option.{none, some}
+use Rattle.std.specs.Prelude.{Option as Answer, Some, None}
 use Rattle.symbols.specs.Rows.{decl_at}
 use Rattle.words.specs.Words.{Word}
 
@@ -39,6 +40,11 @@ push_second key text rows i = elim (decl_at text rows i).second [ none ↦ rows 
 -- row i before the chain of its name
 unfoldable pub push_name : ℕ → List ℕ → List ℕ → ℕ → List ℕ
 push_name key text rows i = push_rows rows (bucket_of key (decl_at text rows i).class (decl_at text rows i).name.text) (2 * i)
+
+-- node k as the rows have it: k + 1, and 0 for none
+abbrev pub node_of : Answer ℕ → ℕ
+node_of None = 0
+node_of (Some k) = suc k
 
 -- the node after p: nodes rise, 0 is the end
 unfoldable pub next_of : List ℕ → ℕ → ℕ

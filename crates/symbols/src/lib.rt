@@ -8,7 +8,7 @@ ghost use Rattle.base.specs.Faults.{fault_number};
 ghost use Rattle.names.specs.Known.{find, is_word};
 ghost use Rattle.names.specs.Declare.{values_of};
 ghost use Rattle.declarations.specs.Decls.{knowns_in, index_of, declared_in, elsewhere_in, lookup_in, type_in};
-ghost use Rattle.symbols.specs.Index.{seed_of, bucket_of, head_at, key_of, next_of, push_rows, push_second, push_name, RowsKept, Kept};
+ghost use Rattle.symbols.specs.Index.{seed_of, bucket_of, head_at, key_of, node_of, next_of, push_rows, push_second, push_name, RowsKept, Kept};
 ghost use Rattle.symbols.specs.Rows.{word_of, decl_at, held, answer_of, row_in, operation_in, operators_row, rule_in, Looks};
 ghost use Rattle.symbols.specs.Search.{part, serves, knows, named, declares, counts};
 
@@ -114,53 +114,51 @@ fn serves(c: usize, d: usize) -> bool
     d == c || d == BOTH && matches!(c, INPUT | OUTPUT)
 }
 
-// The part is the name of declaration i.
-fn is_name(text: &[u8], rows: &[u16], i: usize, start: usize, len: usize) -> bool
+// The word is the name of declaration i.
+fn is_name(text: &[u8], rows: &[u16], i: usize, word: &[u8]) -> bool
     requires { i ≤ 512 }
-    ensures { result ≡ same (part text.now start len) (decl_at text.now rows.now i).name.text }
+    ensures { result ≡ same word.now (decl_at text.now rows.now i).name.text }
 {
-    same_part(
+    word == part(
         text,
-        start,
-        len,
         number(rows, ROW * i + NAME_START),
         number(rows, ROW * i + NAME_LEN),
     )
 }
 
-// The part is the second word of declaration i.
-fn is_second(text: &[u8], rows: &[u16], i: usize, start: usize, len: usize) -> bool
+// The word is the second word of declaration i.
+fn is_second(text: &[u8], rows: &[u16], i: usize, word: &[u8]) -> bool
     requires { i ≤ 512 }
-    ensures { result ≡ is_word (part text.now start len) (decl_at text.now rows.now i).second }
+    ensures { result ≡ is_word word.now (decl_at text.now rows.now i).second }
 {
     let n = number(rows, ROW * i + SECOND_LEN);
-    n != 0 && same_part(text, start, len, number(rows, ROW * i + SECOND_START), n)
+    n != 0 && word == part(text, number(rows, ROW * i + SECOND_START), n)
 }
 
-// The part is its name or its string, in the class.
-fn knows(text: &[u8], rows: &[u16], i: usize, class: usize, start: usize, len: usize) -> bool
+// The word is its name or its string, in the class.
+fn knows(text: &[u8], rows: &[u16], i: usize, class: usize, word: &[u8]) -> bool
     requires { i ≤ 512 }
-    ensures { result ≡ knows class (part text.now start len) (decl_at text.now rows.now i) }
+    ensures { result ≡ knows class word.now (decl_at text.now rows.now i) }
 {
     serves(class, number(rows, ROW * i))
-        && (is_name(text, rows, i, start, len) || is_second(text, rows, i, start, len))
+        && (is_name(text, rows, i, word) || is_second(text, rows, i, word))
 }
 
-// The part is its name, and this is its class.
-fn named(text: &[u8], rows: &[u16], i: usize, class: usize, start: usize, len: usize) -> bool
+// The word is its name, and this is its class.
+fn named(text: &[u8], rows: &[u16], i: usize, class: usize, word: &[u8]) -> bool
     requires { i ≤ 512 }
-    ensures { result ≡ named class (part text.now start len) (decl_at text.now rows.now i) }
+    ensures { result ≡ named class word.now (decl_at text.now rows.now i) }
 {
-    number(rows, ROW * i) == class && is_name(text, rows, i, start, len)
+    number(rows, ROW * i) == class && is_name(text, rows, i, word)
 }
 
-// The part is declared by it.
-fn declares(text: &[u8], rows: &[u16], i: usize, start: usize, len: usize) -> bool
+// The word is declared by it.
+fn declares(text: &[u8], rows: &[u16], i: usize, word: &[u8]) -> bool
     requires { i ≤ 512 }
-    ensures { result ≡ declares (part text.now start len) (decl_at text.now rows.now i) }
+    ensures { result ≡ declares word.now (decl_at text.now rows.now i) }
 {
-    is_name(text, rows, i, start, len)
-        || number(rows, ROW * i) != OPERATION && is_second(text, rows, i, start, len)
+    is_name(text, rows, i, word)
+        || number(rows, ROW * i) != OPERATION && is_second(text, rows, i, word)
 }
 
 // It has the value in the class.
@@ -185,13 +183,13 @@ fn seed(class: usize) -> usize
 }
 
 // The chain of a word of a class, by a key.
-fn bucket(text: &[u8], key: usize, class: usize, start: usize, len: usize) -> usize
+fn bucket(key: usize, class: usize, word: &[u8]) -> usize
     requires { key < 65536 }
-    ensures value { result ≡ bucket_of key class (part text.now start len) }
+    ensures value { result ≡ bucket_of key class word.now }
     ensures upper_bound { result < 511 }
 {
     let mut h = seed(class);
-    for &b in part(text, start, len) {
+    for &b in word {
         h = (h * key + usize::from(b)) % MODULUS;
     }
     h % BUCKETS
@@ -216,7 +214,8 @@ fn push_second(text: &[u8], rows: &mut [u16], key: usize, i: usize)
         return;
     }
     let class = number(rows, ROW * i);
-    let b = bucket(text, key, class, number(rows, ROW * i + SECOND_START), len);
+    let word = part(text, number(rows, ROW * i + SECOND_START), len);
+    let b = bucket(key, class, word);
     push_node(rows, b, 2 * i + 1);
 }
 
@@ -225,13 +224,12 @@ fn push_name(text: &[u8], rows: &mut [u16], key: usize, i: usize)
     requires { (length rows.old ≡ 6017) × (key < 65536) × (i < 512) }
     ensures { rows.new ≡ push_name key text.now rows.old i }
 {
-    let b = bucket(
+    let name = part(
         text,
-        key,
-        number(rows, ROW * i),
         number(rows, ROW * i + NAME_START),
         number(rows, ROW * i + NAME_LEN),
     );
+    let b = bucket(key, number(rows, ROW * i), name);
     push_node(rows, b, 2 * i);
 }
 
@@ -246,26 +244,23 @@ fn clear_heads(rows: &mut [u16], key: usize)
     rows[KEY] = key as u16;
 }
 
-// The first node of the chain of a word of a class.
-fn first_node(text: &[u8], rows: &[u16], class: usize, start: usize, len: usize) -> usize
-    ensures same { result ≡ head_at rows.now (bucket_of (key_of rows.now) class (part text.now start len)) }
-    ensures low { result < 65536 }
+// The first node of the chain b, where it has one: node k stands in the rows as k + 1.
+fn first_node(rows: &[u16], b: usize) -> Option<usize>
+    requires { b < 511 }
+    ensures same { node_of result ≡ head_at rows.now b }
+    ensures low { IfSome result (λ k. k < 65535) }
 {
-    number(
-        rows,
-        HEADS + bucket(text, number(rows, KEY), class, start, len),
-    )
+    number(rows, HEADS + b).checked_sub(1)
 }
 
-// The node after p, 0 at the end. Nodes rise in an index; the test makes a search end on any rows.
-fn next_node(rows: &[u16], p: usize) -> usize
-    requires { (0 < p) × (p < 65536) }
-    ensures same { result ≡ next_of rows.now p }
-    ensures up { 0 < result → p < result }
-    ensures low { result < 65536 }
+// The node after node k. Nodes rise in an index; the test makes a search end on any rows.
+fn next_node(rows: &[u16], k: usize) -> Option<usize>
+    requires { k < 65535 }
+    ensures same { node_of result ≡ next_of rows.now (k + 1) }
+    ensures up { IfSome result (λ q. (k < q) × (q < 65535)) }
 {
-    let q = number(rows, LINKS + (p - 1));
-    if p < q { q } else { 0 }
+    let p = number(rows, LINKS + k);
+    if k + 1 < p { Some(p - 1) } else { None }
 }
 
 // The first n rows are put into the chains of their words by a key, the last row first.
@@ -285,14 +280,14 @@ fn build(text: &[u8], rows: &mut [u16], n: usize, key: usize)
 fn nodes_of(rows: &[u16], b: usize) -> usize
     requires { b < 511 }
 {
-    let mut k: usize = 0;
-    let mut p = number(rows, HEADS + b);
+    let mut count: usize = 0;
+    let mut node = first_node(rows, b);
     // no range: a node says which comes next
-    while p != 0 {
-        k += 1;
-        p = next_node(rows, p);
+    while let Some(k) = node {
+        count += 1;
+        node = next_node(rows, k);
     }
-    k
+    count
 }
 
 // How many nodes the longest chain has.
@@ -356,17 +351,18 @@ pub fn find_value(
     ensures same { result ≡ answer_of (find (part text.now start len) (knowns_in class (held text.now rows.now n))) }
     ensures low { IfSome result (λ v. v < 65536) }
 {
-    let mut p = first_node(text, rows, class, start, len);
+    let word = part(text, start, len);
+    let mut node = first_node(rows, bucket(number(rows, KEY), class, word));
     // no range: a node says which comes next
-    while p != 0 {
-        let i = (p - 1) / 2;
+    while let Some(k) = node {
+        let i = k / 2;
         if n <= i {
             return None;
         }
-        if knows(text, rows, i, class, start, len) {
+        if knows(text, rows, i, class, word) {
             return Some(number(rows, ROW * i + VALUE));
         }
-        p = next_node(rows, p);
+        node = next_node(rows, k);
     }
     None
 }
@@ -384,17 +380,18 @@ pub fn find_row(
     ensures same { result ≡ answer_of (index_of class (part text.now start len) 0 (held text.now rows.now n)) }
     ensures below { IfSome result (λ i. i < n) }
 {
-    let mut p = first_node(text, rows, class, start, len);
+    let word = part(text, start, len);
+    let mut node = first_node(rows, bucket(number(rows, KEY), class, word));
     // no range: a node says which comes next
-    while p != 0 {
-        let i = (p - 1) / 2;
+    while let Some(k) = node {
+        let i = k / 2;
         if n <= i {
             return None;
         }
-        if named(text, rows, i, class, start, len) {
+        if named(text, rows, i, class, word) {
             return Some(i);
         }
-        p = next_node(rows, p);
+        node = next_node(rows, k);
     }
     None
 }
@@ -420,8 +417,9 @@ pub fn is_declared(text: &[u8], rows: &[u16], n: usize, start: usize, len: usize
     requires { Kept text.now rows.now n }
     ensures { result ≡ declared_in (part text.now start len) (held text.now rows.now n) }
 {
+    let word = part(text, start, len);
     for i in 0..n {
-        if declares(text, rows, i, start, len) {
+        if declares(text, rows, i, word) {
             return true;
         }
     }
@@ -444,7 +442,7 @@ pub fn has_value(rows: &[u16], n: usize, class: usize, v: usize) -> bool
 // Words looked up
 
 // A fault's number, or 0 and a value.
-#[derive(Clone, Copy)]
+#[derive(Clone, Copy, Debug, PartialEq, Eq)]
 pub struct Looked {
     pub fault: u16,
     pub value: usize,

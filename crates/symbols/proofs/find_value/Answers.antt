@@ -1,25 +1,24 @@
 -- `symbols::find_value` meets its contract.
-use mathlib.Core.Path.{◌≡◌, sym, ◌∙◌}
+use mathlib.Core.Path.{ap, sym, ◌∙◌}
+use Prim.Native.Nat.{ℕ}
 use native.Mathlib.Omega.{arith}
 use Rattle.symbols.specs.Rows.{decl_at}
-use Rattle.symbols.specs.Index.{bucket_of, key_of}
-use Rattle.symbols.specs.Search.{part}
-use Rattle.symbols.proofs.Along.{along-start, along-end, along-past, along-hit, along-miss, nodes-left, known_among}
+use Rattle.symbols.specs.Index.{bucket_of, head_at, key_of, node_of}
+use Rattle.symbols.proofs.Along.{along-start, along-end, along-past, along-hit, along-miss, nodes-fewer, node-low, known_among}
 use Rattle.symbols.proofs.Parts.{bucket-low}
 use Rattle.symbols.proofs.Searches.{by_value, answers-there, answers-nowhere}
 use Rattle.symbols.proofs.find_value.Goals as goal
 
-pub first_node-p-requires : goal.first_node-p-requires
-first_node-p-requires c = tt
-
-pub loop-p-init : goal.loop-p-init
-loop-p-init c = (c.first_node-p.ensures.low, along-start (by_value c.args.class (part c.args.text.now c.args.start c.args.len)) c.args.text.now c.args.rows.now c.args.n (bucket_of (key_of c.args.rows.now) c.args.class (part c.args.text.now c.args.start c.args.len)) _ c.requires.indexed (bucket-low (key_of c.args.rows.now) c.args.class (part c.args.text.now c.args.start c.args.len)) c.first_node-p.ensures.same (λ j l e. known_among c.requires.indexed (part c.args.text.now c.args.start c.args.len) j l c.args.class e))
-
-pub overflow_sub-i : goal.overflow_sub-i
-overflow_sub-i c = let d : (c.loop-p.p ≡ 0 → ⊥) = c.loop-p-test.true in omega arith
+pub loop-node-init : goal.loop-node-init
+loop-node-init c = (
+  c.first_node-node.ensures.low,
+  along-start (by_value c.args.class c.part-word.result.now) c.args.text.now c.args.rows.now c.args.n (bucket_of (key_of c.args.rows.now) c.args.class c.part-word.result.now) _ c.requires.indexed (bucket-low (key_of c.args.rows.now) c.args.class c.part-word.result.now)
+      (c.first_node-node.ensures.same ∙ ap (head_at c.args.rows.now) (c.bucket.ensures.value ∙ ap (λ (k : ℕ). bucket_of k c.args.class c.part-word.result.now) c.number.ensures.0))
+      (λ j l e. known_among c.requires.indexed c.part-word.result.now j l c.args.class e),
+)
 
 pub returns-then-n-i : goal.returns-then-n-i
-returns-then-n-i c = record { same = answers-nowhere _ (along-past (by_value c.args.class (part c.args.text.now c.args.start c.args.len)) c.args.text.now c.args.rows.now c.args.n c.loop-p-test.true c.if-n-i.true c.loop-p.invariant.1); low = tt }
+returns-then-n-i c = record { same = rw c.part-word.ensures at (answers-nowhere _ (along-past (by_value c.args.class c.part-word.result.now) c.args.text.now c.args.rows.now c.args.n (ap node_of c.in-Some.is) c.if-n-i.true c.loop-node.invariant.1)); low = tt }
 
 pub knows-requires : goal.knows-requires
 knows-requires c = omega (arith, c.if-n-i.false, c.requires.few)
@@ -30,21 +29,18 @@ overflow_mul-i c = omega (arith, c.if-n-i.false, c.requires.few)
 pub overflow_add-i : goal.overflow_add-i
 overflow_add-i c = omega (arith, c.if-n-i.false, c.requires.few)
 
-pub number-requires : goal.number-requires
-number-requires c = tt
-
 pub returns-then-knows : goal.returns-then-knows
 unfolding decl_at
-returns-then-knows c = record { same = answers-there _ _ _ (along-hit (by_value c.args.class (part c.args.text.now c.args.start c.args.len)) c.args.text.now c.args.rows.now c.args.n c.loop-p-test.true c.if-n-i.false (sym c.knows.ensures ∙ c.if-knows.true) c.loop-p.invariant.1) c.number.ensures.0; low = c.number.ensures.1 }
+returns-then-knows c = record { same = rw c.part-word.ensures at (answers-there _ _ _ (along-hit (by_value c.args.class c.part-word.result.now) c.args.text.now c.args.rows.now c.args.n (ap node_of c.in-Some.is) c.if-n-i.false (sym c.knows.ensures ∙ c.if-knows.true) c.loop-node.invariant.1) c.number-then-knows.ensures.0); low = c.number-then-knows.ensures.1 }
 
-pub next_node-p-requires : goal.next_node-p-requires
-next_node-p-requires c = (let d : (c.loop-p.p ≡ 0 → ⊥) = c.loop-p-test.true in omega arith, c.loop-p.invariant.0)
+pub next_node-node-requires : goal.next_node-node-requires
+next_node-node-requires c = rw c.in-Some.is at c.loop-node.invariant.0
 
-pub loop-p-smaller : goal.loop-p-smaller
-loop-p-smaller c = nodes-left c.loop-p.p _ c.loop-p-test.true c.loop-p.invariant.0 c.next_node-p.ensures.low c.next_node-p.ensures.up
+pub loop-node-smaller : goal.loop-node-smaller
+loop-node-smaller c = nodes-fewer c.next_node-node.result c.in-Some.is c.loop-node.invariant.0 c.next_node-node.ensures.up
 
-pub loop-p-preserved : goal.loop-p-preserved
-loop-p-preserved c = (c.next_node-p.ensures.low, along-miss (by_value c.args.class (part c.args.text.now c.args.start c.args.len)) c.args.text.now c.args.rows.now c.args.n c.loop-p-test.true (sym c.knows.ensures ∙ c.if-knows.false) c.next_node-p.ensures.same c.loop-p.invariant.1)
+pub loop-node-preserved : goal.loop-node-preserved
+loop-node-preserved c = (node-low c.in-Some.k c.next_node-node.result c.next_node-node.ensures.up, along-miss (by_value c.args.class c.part-word.result.now) c.args.text.now c.args.rows.now c.args.n (ap node_of c.in-Some.is) (sym c.knows.ensures ∙ c.if-knows.false) c.next_node-node.ensures.same c.loop-node.invariant.1)
 
 pub returns : goal.returns
-returns c = record { same = answers-nowhere _ (along-end (by_value c.args.class (part c.args.text.now c.args.start c.args.len)) c.args.text.now c.args.rows.now c.args.n c.loop-p-test.false c.loop-p.invariant.1); low = tt }
+returns c = record { same = rw c.part-word.ensures at (answers-nowhere _ (along-end (by_value c.args.class c.part-word.result.now) c.args.text.now c.args.rows.now c.args.n (ap node_of c.in_default.is) c.loop-node.invariant.1)); low = tt }

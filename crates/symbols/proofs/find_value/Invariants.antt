@@ -1,12 +1,13 @@
 -- `symbols::find_value` meets its contract.
-use Prim.Native.Nat.{◌-◌, ◌%◌, ◌<◌}
-use Rattle.symbols.specs.Search.{part}
-use Rattle.symbols.proofs.Along.{Along}
+use Prim.Native.Nat.{◌<◌}
+use Rattle.std.specs.Prelude.{IfSome}
+use Rattle.symbols.specs.Index.{node_of}
+use Rattle.symbols.proofs.Along.{Along, nodes_left}
 use Rattle.symbols.proofs.Searches.{by_value}
 use Rattle.symbols.proofs.find_value.Given as goal
 
-abbrev pub invariant-loop-p : goal.invariant-loop-p
-invariant-loop-p l = (l.p < 65536) × Along (by_value l.class (part l.text l.start l.len)) l.text l.rows l.n l.p
+abbrev pub invariant-loop-node : goal.invariant-loop-node
+invariant-loop-node l = IfSome l.node (λ k. k < 65535) × Along (by_value l.class l.word) l.text l.rows l.n (node_of l.node)
 
-abbrev pub decreases-loop-p : goal.decreases-loop-p
-decreases-loop-p l = (65536 - l.p) % 65536
+abbrev pub decreases-loop-node : goal.decreases-loop-node
+decreases-loop-node l = nodes_left l.node

@@ -1,9 +1,9 @@
 -- `symbols::next_node` meets its contract.
-use Rattle.symbols.proofs.Along.{next_up, next-end}
+use Rattle.symbols.proofs.Along.{node-up, node-end}
 use Rattle.symbols.proofs.next_node.Goals as goal
 
-pub returns-then-p-q-clause-same : goal.returns-then-p-q-clause-same
-returns-then-p-q-clause-same c = next_up c.args.rows.now c.args.p _ c.number-q.ensures.0 c.if-p-q.true
+pub returns-then-k-p-clause-same : goal.returns-then-k-p-clause-same
+returns-then-k-p-clause-same c = node-up c.args.rows.now c.args.k _ c.number-p.ensures.0 c.if-k-p.true
 
-pub returns-else-p-q-clause-same : goal.returns-else-p-q-clause-same
-returns-else-p-q-clause-same c = next-end c.args.rows.now c.args.p _ c.number-q.ensures.0 c.if-p-q.false
+pub returns-else-k-p-clause-same : goal.returns-else-k-p-clause-same
+returns-else-k-p-clause-same c = node-end c.args.rows.now c.args.k _ c.number-p.ensures.0 c.if-k-p.false

@@ -1,9 +1,11 @@
 -- `symbols::nodes_of` meets its contract.
-use Prim.Native.Nat.{◌-◌, ◌%◌, ◌<◌, ◌≤◌}
+use Prim.Native.Nat.{◌+◌, ◌<◌, ◌≤◌}
+use Rattle.std.specs.Prelude.{IfSome}
+use Rattle.symbols.proofs.Along.{nodes_left}
 use Rattle.symbols.proofs.nodes_of.Given as goal
 
-abbrev pub invariant-loop-p : goal.invariant-loop-p
-invariant-loop-p l = (l.p < 65536) × (l.k ≤ 65535) × (0 < l.p → l.k < l.p)
+abbrev pub invariant-loop-node : goal.invariant-loop-node
+invariant-loop-node l = IfSome l.node (λ k. k < 65535) × (l.count + nodes_left l.node ≤ 65536)
 
-abbrev pub decreases-loop-p : goal.decreases-loop-p
-decreases-loop-p l = (65536 - l.p) % 65536
+abbrev pub decreases-loop-node : goal.decreases-loop-node
+decreases-loop-node l = nodes_left l.node
