@@ -11,13 +11,13 @@ use lib.ListN.{length, take, length-append}
 use lib.Seq.{append_snoc, take-append_seam}
 use borrow.Author.Tests.{eqb-true, ne_eqb, eq-eqb}
 use Rattle.base.specs.Bools.{never}
-use Rattle.std.specs.Prelude.{if◌then◌else◌}
+use Rattle.std.specs.Prelude.{is_some, if◌then◌else◌}
 use Rattle.base.specs.Common.{given, same}
 use Rattle.declarations.proofs.Declaring.{Means, entry-means}
 use Rattle.declarations.specs.Decls.{Decl, feeds, knowns_in, declared_in, elsewhere_in, index_of, lookup_in, operator_in, operators_in, operators_fault}
 use Rattle.declarer.proofs.FaultLaws.{goes, stops, ends, is-clean, again, once}
 use Rattle.declarer.specs.Faults.{Faults, clean, faulty}
-use Rattle.declarer.specs.Operators.{same_value, against_one, against, entry_fault, entries_fault, Left, Passed, MarkedAs, Apart, MarksKept, AllMarked}
+use Rattle.declarer.specs.Operators.{number_in, same_value, against_one, against, entry_fault, entries_fault, Left, Passed, MarkedAs, Apart, MarksKept, AllMarked}
 use Rattle.declarer.proofs.MarkLaws.{apart-against, marked-kept, marked_more}
 use Rattle.grammar.specs.Derived.{Not, OperatorsIn, last_operator, more_operators}
 use Rattle.maker.specs.Ranks.{EntryIs, AnEntry}
@@ -30,10 +30,12 @@ use Rattle.scanner.specs.Next.{Next, as_word}
 use Rattle.scanner.specs.declared.WordAt.{WordAt}
 use Rattle.symbols.proofs.Searches.{by_value, by_word}
 use Rattle.std.specs.Option.{option_eq}
-use Rattle.std.specs.Prelude.{Option as Answer, Some}
-use Rattle.symbols.specs.Rows.{answer_of}
-use Rattle.symbols.proofs.Numbered.{Numbered, found, missing}
-use Rattle.symbols.specs.Search.{part, knows, declares, Tells, there, nowhere}
+use Rattle.std.specs.Prelude.{Option as Answer, Result, Ok, Err}
+use Rattle.base.specs.declared.Fault.{Fault}
+use Rattle.symbols.specs.Rows as rows
+use Rattle.symbols.specs.Rows.{answer_of, Looks}
+use Rattle.symbols.proofs.Numbered.{Numbered, found, missing, fault-some}
+use Rattle.symbols.specs.Search.{part, knows, declares}
 use Rattle.syntax.specs.Reading.{peek}
 use Rattle.syntax.specs.Written.{Operator}
 use Rattle.words.specs.Words.{Word, words_at}
@@ -171,31 +173,31 @@ next_one {ds} {v} {e} {text} {i} {left} {count} {ws'} {es} {b} l a = go l.rest l
         record { one = o; rest = os; tail = _; is = is; stand = rw is.rest at s; more = omega arith; same = q ∙ one-step ds v e o os left }
 
 -- what the code finds of a token
-tells-token : (ds : List Decl) {text : List ℕ} {from v : ℕ} {o : Operator} {ws₁ : List Word} {e : Entry} → EntryIs text from o ws₁ e
-    → Tells v (find (part text e.token.start e.token.len) (knowns_in 1 ds)) → Tells v (find o.token.text (knowns_in 1 ds))
-tells-token ds is h = rw is.token h
+value-token : (ds : List Decl) {text : List ℕ} {from : ℕ} {v : Answer ℕ} {o : Operator} {ws₁ : List Word} {e : Entry} → EntryIs text from o ws₁ e
+    → v ≡ answer_of (find (part text e.token.start e.token.len) (knowns_in 1 ds)) → v ≡ answer_of (find o.token.text (knowns_in 1 ds))
+value-token ds is h = rw is.token h
 
 -- the code's test against the entry b
-abbrev Tested : List Decl → List ℕ → ℕ → Entry → Entry → Bool → Type 0
+abbrev Tested : List Decl → List ℕ → Answer ℕ → Entry → Entry → Bool → Type 0
 Tested ds text v e b r =
-    (x : Option ℕ) → Tells v x → r ≡ ((eqb e.level b.level && differ e.right b.right) || same_value x (find (part text b.token.start b.token.len) (knowns_in 1 ds)))
+    (x : Option ℕ) → v ≡ answer_of x → r ≡ ((eqb e.level b.level && differ e.right b.right) || same_value x (find (part text b.token.start b.token.len) (knowns_in 1 ds)))
 
-tested-one : (ds : List Decl) {text : List ℕ} {from i v : ℕ} {o b₀ : Operator} {ws₁ ws₂ : List Word} {e b : Entry} {r : Bool} → EntryIs text from o ws₁ e → EntryIs text i b₀ ws₂ b
-    → Tells v (find o.token.text (knowns_in 1 ds)) → Tested ds text v e b r → against_one ds (find o.token.text (knowns_in 1 ds)) o b₀ ≡ r
+tested-one : (ds : List Decl) {text : List ℕ} {from i : ℕ} {v : Answer ℕ} {o b₀ : Operator} {ws₁ ws₂ : List Word} {e b : Entry} {r : Bool} → EntryIs text from o ws₁ e → EntryIs text i b₀ ws₂ b
+    → v ≡ answer_of (find o.token.text (knowns_in 1 ds)) → Tested ds text v e b r → against_one ds (find o.token.text (knowns_in 1 ds)) o b₀ ≡ r
 unfolding against_one
 tested-one ds {o = o} is one t h = rw (one.level, one.right, one.token, is.level, is.right) (sym (h (find o.token.text (knowns_in 1 ds)) t))
 
 -- the entry b clashes, or the next is looked at
-module _ (ds : List Decl) {text : List ℕ} {count i k v from : ℕ} {ws' ws₁ : List Word} {es : List Operator} {o : Operator} {e b : Entry} {r : Bool} (is : EntryIs text from o ws₁ e)
+module _ (ds : List Decl) {text : List ℕ} {count i k from : ℕ} {v : Answer ℕ} {ws' ws₁ : List Word} {es : List Operator} {o : Operator} {e b : Entry} {r : Bool} (is : EntryIs text from o ws₁ e)
     (l : Left ds (find o.token.text (knowns_in 1 ds)) o text i (count - k) count ws' es) (less : k < count) (a : AnEntry text i b)
-    (t : Tells v (find (part text e.token.start e.token.len) (knowns_in 1 ds))) (h : Tested ds text v e b r) where
+    (t : v ≡ answer_of (find (part text e.token.start e.token.len) (knowns_in 1 ds))) (h : Tested ds text v e b r) where
   one_found : Next-one ds (find o.token.text (knowns_in 1 ds)) o text i (count - (k + 1)) count ws' es b
   one_found = next_one (rw one_less at l) a where
     one_less : count - k ≡ suc (count - (k + 1))
     one_less = omega arith
 
   one-is : against_one ds (find o.token.text (knowns_in 1 ds)) o one_found.one ≡ r
-  one-is = tested-one ds is one_found.is (tells-token ds is t) h
+  one-is = tested-one ds is one_found.is (value-token ds is t) h
 
   abbrev others : Bool
   others = against ds (find o.token.text (knowns_in 1 ds)) o (take (count - (k + 1)) one_found.rest)
@@ -219,16 +221,16 @@ left-ends {ds} {v} {o} {text} {i} {k} {count} {ws'} {es} l h = sym (l.same ∙ r
 
 -- Values that the code compares
 
-pub token-none : {v : ℕ} {x : Option ℕ} (y : Option ℕ) → v ≡ 65536 → Tells v x → false ≡ same_value x y
+pub token-none : {v : Answer ℕ} (x y : Option ℕ) → v ≡ answer_of x → is_some v ≡ false → false ≡ same_value x y
 unfolding same_value
-token-none y e (there h l) = absurd (omega arith)
-token-none y e (nowhere h) = refl
+token-none none y e q = refl
+token-none (some u) y e q = never (sym q ∙ rw e refl)
 
-pub token-same : {v : ℕ} {r : Answer ℕ} {x : Option ℕ} (y : Option ℕ) → (v ≡ 65536 → ⊥) → r ≡ answer_of y → Tells v x → option_eq eqb (Some v) r ≡ same_value x y
+pub token-same : {v r : Answer ℕ} (x y : Option ℕ) → v ≡ answer_of x → r ≡ answer_of y → is_some v ≡ true → option_eq eqb v r ≡ same_value x y
 unfolding same_value
-token-same none z e (there g m) = rw e refl
-token-same (some u) z e (there g m) = rw (e, g) refl
-token-same y z e (nowhere g) = absurd (z g)
+token-same none y e f q = never (rw e at q)
+token-same (some v) none e f q = rw (e, f) refl
+token-same (some v) (some u) e f q = rw (e, f) refl
 
 pub levels-apart : (a b : ℕ) (s : Bool) → (a ≡ b → ⊥) → false ≡ (eqb a b && s)
 levels-apart a b s h = rw (ne_eqb a b h) refl
@@ -309,6 +311,14 @@ token-declared {t} {v} ds w l n = go (find w.text (knowns_in 1 ds)) refl (declar
     go (some u) p false q m = never (sym q ∙ known-declared w.text ds p)
     go none p false q (missing h z) = absurd (n h)
 
+abbrev pub unwrap_ok : Result ℕ Fault → ℕ
+unwrap_ok (Ok v) = v
+unwrap_ok (Err f) = 0
+
+pub found-number : {r : Result ℕ Fault} {m : Checked ℕ} → Looks r m → Numbered (number_in r) (unwrap_ok r) m
+found-number (rows.found {v = v} e) = rw e (found refl refl)
+found-number (rows.missing {n = n} {f = f} e q) = rw e (missing q (λ z. fault-some f (q ∙ z)))
+
 pub not-three : {n : ℕ} {b : Bool} → b ≡ eqb n 3 → b ≡ false → n ≡ 3 → ⊥
 not-three {n} e f z = never (sym f ∙ e ∙ eq-eqb n 3 z)
 
@@ -362,10 +372,10 @@ module _ (ds : List Decl) (before : List Operator) {text : List ℕ} {from : ℕ
           places y (faulty x n p l) = absurd (n (sym x ∙ y))
 
 -- an entry that is apart from the marks
-pub apart-entry : (ds : List Decl) {text rows : List ℕ} {n from v : ℕ} {marks : List ℕ} {bs : List Operator} {o : Operator} {ws₁ : List Word} {e : Entry} {r : Bool} → EntryIs text from o ws₁ e
-    → Tells v (find (part text e.token.start e.token.len) (knowns_in 1 ds)) → AllMarked ds rows n marks bs → (r ≡ true → (x : Option ℕ) → Tells v x → Apart rows n marks e.level e.right x)
+pub apart-entry : (ds : List Decl) {text rows : List ℕ} {n from : ℕ} {v : Answer ℕ} {marks : List ℕ} {bs : List Operator} {o : Operator} {ws₁ : List Word} {e : Entry} {r : Bool} → EntryIs text from o ws₁ e
+    → v ≡ answer_of (find (part text e.token.start e.token.len) (knowns_in 1 ds)) → AllMarked ds rows n marks bs → (r ≡ true → (x : Option ℕ) → v ≡ answer_of x → Apart rows n marks e.level e.right x)
     → r ≡ true → against ds (find o.token.text (knowns_in 1 ds)) o bs ≡ false
-apart-entry ds {o = o} is t m f q = apart-against o m (rw (is.level, is.right) (f q (find o.token.text (knowns_in 1 ds)) (tells-token ds is t)))
+apart-entry ds {o = o} is t m f q = apart-against o m (rw (is.level, is.right) (f q (find o.token.text (knowns_in 1 ds)) (value-token ds is t)))
 
 -- All entries
 
@@ -418,9 +428,9 @@ module _ {ds : List Decl} {text : List ℕ} {i count : ℕ} {ws' : List Word} {e
       size-more = omega (arith, at_i.size, length-append at_i.before (at_i.one ∷ []))
 
   -- the marks are those of this entry, too
-  pub passed-marks : {rows : List ℕ} {n v : ℕ} {old new : List ℕ} → AllMarked ds rows n old (take count es) → MarksKept old new → Tells v (find (part text e.token.start e.token.len) (knowns_in 1 ds))
-      → ((x : Option ℕ) → Tells v x → MarkedAs rows n new e.level e.right x) → AllMarked ds rows n new (take (count + 1) es)
-  passed-marks {rows} {n} {v} {old} {new} m k t g = rw taken_more (marked_more at_i.before at_i.one (marked-kept k (rw taken at m)) (rw (at_i.is.level, at_i.is.right) (g (find at_i.one.token.text (knowns_in 1 ds)) (tells-token ds at_i.is t))))
+  pub passed-marks : {rows : List ℕ} {n : ℕ} {v : Answer ℕ} {old new : List ℕ} → AllMarked ds rows n old (take count es) → MarksKept old new → v ≡ answer_of (find (part text e.token.start e.token.len) (knowns_in 1 ds))
+      → ((x : Option ℕ) → v ≡ answer_of x → MarkedAs rows n new e.level e.right x) → AllMarked ds rows n new (take (count + 1) es)
+  passed-marks {rows} {n} {v} {old} {new} m k t g = rw taken_more (marked_more at_i.before at_i.one (marked-kept k (rw taken at m)) (rw (at_i.is.level, at_i.is.right) (g (find at_i.one.token.text (knowns_in 1 ds)) (value-token ds at_i.is t))))
 
   module _ {f at len : ℕ} (h : count < length es → (from : ℕ) (o : Operator) (ws₁ : List Word) → EntryIs text from o ws₁ e → Faults f at len (entry_fault ds (take count es) o)) where
     one-fault : Faults f at len (entry_fault ds at_i.before at_i.one)

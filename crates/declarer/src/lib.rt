@@ -1,7 +1,7 @@
 // The faults of the declarations, over their row; a section of operators has its entries in the text.
 #![tactic(auto)]
 
-ghost use Rattle.std.specs.Prelude.{◌≡◌, true, false, ◌&&◌, ◌||◌, List, [], ℕ, ◌+◌, ◌-◌, ◌*◌, ◌<◌, ◌≤◌, eqb, length, take};
+ghost use Rattle.std.specs.Prelude.{◌≡◌, true, false, ◌&&◌, ◌||◌, List, [], ℕ, ◌+◌, ◌-◌, ◌*◌, ◌<◌, ◌≤◌, eqb, length, take, IfSome};
 ghost use Rattle.std.proofs.Math.Option.{Option};
 ghost use Rattle.base.specs.Common.{given};
 ghost use Rattle.base.specs.Faults.{fault_number};
@@ -12,11 +12,11 @@ ghost use Rattle.grammar.specs.Derived.{OperatorsIn};
 ghost use Rattle.syntax.specs.Written.{Operator};
 ghost use Rattle.maker.specs.Ranks.{EntryIs};
 ghost use Rattle.symbols.specs.Index.{Kept};
-ghost use Rattle.symbols.specs.Rows.{option_of, decl_at, held, held_from};
-ghost use Rattle.symbols.specs.Search.{part, Tells};
+ghost use Rattle.symbols.specs.Rows.{answer_of, option_of, decl_at, held, held_from};
+ghost use Rattle.symbols.specs.Search.{part};
 ghost use Rattle.words.specs.Words.{Word, words_at};
 ghost use Rattle.declarer.specs.Faults.{Refuses, fault_of, at_of, len_of, input_again, both_again, operation_again, types_in, line_again, line_fault, line_faults};
-ghost use Rattle.declarer.specs.Operators.{same_value, against, entry_fault, entries_fault, slot_from, side_slot, Apart, MarkedAs, MarksKept};
+ghost use Rattle.declarer.specs.Operators.{number_in, same_value, against, entry_fault, entries_fault, slot_of, is_free, side_slot, Apart, MarkedAs, MarksKept};
 
 use base::{Refusal, number};
 use maker::{Entry, entries_at, read_entry};
@@ -28,9 +28,9 @@ use symbols::{
 };
 
 // Marks of the entries of a section: for each token's value, at the first declaration that has it, and behind them for each level and side.
-const MARKS: usize = 545;
+const SIDES: usize = base::NAMES;
 
-const SIDES: usize = 513;
+const MARKS: usize = SIDES + 32;
 
 // What `partnames::settle` tells: a fault's number with the place and the length of its word, or 0.
 #[derive(Clone, Copy, Debug, PartialEq, Eq)]
@@ -61,17 +61,15 @@ fn string_known(text: &[u8], rows: &[u16], i: usize, class: usize) -> bool
     ensures { result ≡ spelled (decl_at text.now rows.now i).second (knowns_in class (held text.now rows.now i)) }
 {
     let len = number(rows, ROW * i + SECOND_LEN);
-    if len == 0 {
-        return false;
-    }
-    is_known(
-        text,
-        rows,
-        i,
-        class,
-        number(rows, ROW * i + SECOND_START),
-        len,
-    )
+    len != 0
+        && is_known(
+            text,
+            rows,
+            i,
+            class,
+            number(rows, ROW * i + SECOND_START),
+            len,
+        )
 }
 
 // A declaration of the class has its name before it.
@@ -129,13 +127,11 @@ fn entry_again(text: &[u8], rows: &[u16], i: usize) -> bool
     ensures { result ≡ entry_again (decl_at text.now rows.now i) (held text.now rows.now i) }
 {
     let class = number(rows, ROW * i);
-    if class == INPUT {
-        return input_again(text, rows, i);
+    match class {
+        INPUT => input_again(text, rows, i),
+        BOTH => both_again(text, rows, i),
+        _ => repeats(text, rows, i, class),
     }
-    if class == BOTH {
-        return both_again(text, rows, i);
-    }
-    repeats(text, rows, i, class)
 }
 
 // An operation again, or after an input token.
@@ -248,21 +244,18 @@ fn other_side(e: Entry, b: Entry) -> bool
     e.level == b.level && differ(e.right, b.right)
 }
 
-// The entry b has the token of value v, which is none where it is 65,536.
-fn has_token(text: &[u8], rows: &[u16], n: usize, v: usize, b: Entry) -> bool
+// The entry b has the token of value v.
+fn has_token(text: &[u8], rows: &[u16], n: usize, v: Option<usize>, b: Entry) -> bool
     requires { Kept text.now rows.now n }
-    ensures { (x : Option ℕ) → Tells v x → result ≡ same_value x (find (part text.now b.token.start b.token.len) (knowns_in 1 (held text.now rows.now n))) }
+    ensures { (x : Option ℕ) → v ≡ answer_of x → result ≡ same_value x (find (part text.now b.token.start b.token.len) (knowns_in 1 (held text.now rows.now n))) }
 {
-    if v == symbols::NONE {
-        return false;
-    }
-    Some(v) == find_value(text, rows, n, INPUT, b.token.start, b.token.len)
+    v.is_some() && v == find_value(text, rows, n, INPUT, b.token.start, b.token.len)
 }
 
 // The entry b has the other side of e's level, or its token, which has the value v.
-fn against_one(text: &[u8], rows: &[u16], n: usize, v: usize, e: Entry, b: Entry) -> bool
+fn against_one(text: &[u8], rows: &[u16], n: usize, v: Option<usize>, e: Entry, b: Entry) -> bool
     requires { Kept text.now rows.now n }
-    ensures { (x : Option ℕ) → Tells v x → result ≡ ((eqb e.level b.level && differ e.right b.right) || same_value x (find (part text.now b.token.start b.token.len) (knowns_in 1 (held text.now rows.now n)))) }
+    ensures { (x : Option ℕ) → v ≡ answer_of x → result ≡ ((eqb e.level b.level && differ e.right b.right) || same_value x (find (part text.now b.token.start b.token.len) (knowns_in 1 (held text.now rows.now n)))) }
 {
     other_side(e, b) || has_token(text, rows, n, v, b)
 }
@@ -273,76 +266,85 @@ fn against(text: &[u8], rows: &[u16], n: usize, at: usize, count: usize, e: Entr
     ensures { (es : List Operator) (ws' : List Word) → OperatorsIn (words_at text.now at) ws' es → count < length es → (from : ℕ) (o : Operator) (ws₁ : List Word) → EntryIs text.now from o ws₁ e
         → result ≡ against (held text.now rows.now n) (find o.token.text (knowns_in 1 (held text.now rows.now n))) o (take count es) }
 {
-    let v = find_value(text, rows, n, INPUT, e.token.start, e.token.len).unwrap_or(symbols::NONE);
+    let v = find_value(text, rows, n, INPUT, e.token.start, e.token.len);
     let mut i = at;
-    let mut k: usize = 0;
-    while k < count {
+    for _ in 0..count {
         let b = read_entry(text, i);
         if against_one(text, rows, n, v, e, b) {
             return true;
         }
         i = b.emits.next;
-        k += 1;
     }
     false
 }
 
-// The first declaration that has the value, whatever its class; their number where none has.
-fn slot_of(rows: &[u16], n: usize, v: usize) -> usize
+// The first declaration that has the value, whatever its class.
+fn slot_of(rows: &[u16], n: usize, v: Option<usize>) -> Option<usize>
     requires { n ≤ 512 }
-    ensures same { result ≡ slot_from rows.now v 0 n }
-    ensures low { result ≤ 512 }
+    ensures same { (x : Option ℕ) → v ≡ answer_of x → result ≡ answer_of (slot_of rows.now n x) }
+    ensures low { IfSome result (λ i. i < 512) }
 {
+    let v = v?;
     for i in 0..n {
         if number(rows, ROW * i + VALUE) == v {
-            return i;
+            return Some(i);
         }
     }
-    n
+    None
 }
 
 // Where a side of a level is marked.
 fn side_slot(level: usize, right: bool) -> usize
     ensures same { result ≡ side_slot level right }
-    ensures low { (513 ≤ result) × (result < 545) }
+    ensures low { (512 ≤ result) × (result < 544) }
 {
-    if right {
-        return SIDES + 1 + 2 * (level % 16);
-    }
-    SIDES + 2 * (level % 16)
+    SIDES + 2 * (level % 16) + usize::from(right)
 }
 
-// No entry that is marked has the other side of e's level, or its token, which has the value v.
+// The slot is there, and has no mark.
+fn is_free(marks: &[u8; MARKS], slot: Option<usize>) -> bool
+    requires { IfSome slot (λ i. i < 512) }
+    ensures { result ≡ is_free marks.now slot }
+{
+    match slot {
+        Some(i) => marks[i] == 0,
+        None => false,
+    }
+}
+
+// The token has a value, and no entry that is marked has that or the other side of e's level.
 fn is_apart(
     rows: &[u16],
     n: usize,
     marks: &[u8; MARKS],
-    v: usize,
+    v: Option<usize>,
     level: usize,
     right: bool,
 ) -> bool
     requires { n ≤ 512 }
-    ensures { result ≡ true → (x : Option ℕ) → Tells v x → Apart rows.now n marks.now level right x }
+    ensures { result ≡ true → (x : Option ℕ) → v ≡ answer_of x → Apart rows.now n marks.now level right x }
 {
-    if marks[side_slot(level, !right)] != 0 {
-        return false;
-    }
-    marks[slot_of(rows, n, v)] == 0
+    marks[side_slot(level, !right)] == 0 && is_free(marks, slot_of(rows, n, v))
 }
 
 // The marks with those of an entry.
-fn mark(rows: &[u16], n: usize, marks: &mut [u8; MARKS], v: usize, level: usize, right: bool)
-    requires { (n ≤ 512) × (length marks.old ≡ 545) }
+fn mark(
+    rows: &[u16],
+    n: usize,
+    marks: &mut [u8; MARKS],
+    v: Option<usize>,
+    level: usize,
+    right: bool,
+)
+    requires { (n ≤ 512) × (length marks.old ≡ 544) }
     ensures kept { MarksKept marks.old marks.new }
-    ensures marked { (x : Option ℕ) → Tells v x → MarkedAs rows.now n marks.new level right x }
+    ensures marked { (x : Option ℕ) → v ≡ answer_of x → MarkedAs rows.now n marks.new level right x }
 {
     let i = side_slot(level, right);
     marks[i] = 1;
-    if v == symbols::NONE {
-        return;
+    if let Some(j) = slot_of(rows, n, v) {
+        marks[j] = 1;
     }
-    let j = slot_of(rows, n, v);
-    marks[j] = 1;
 }
 
 // The same as `against`, where the entry is not known to be apart from those before.
@@ -360,10 +362,7 @@ fn against_unless(
         → (apart ≡ true → against (held text.now rows.now n) (find o.token.text (knowns_in 1 (held text.now rows.now n))) o (take count es) ≡ false)
         → result ≡ against (held text.now rows.now n) (find o.token.text (knowns_in 1 (held text.now rows.now n))) o (take count es) }
 {
-    if apart {
-        return false;
-    }
-    against(text, rows, n, at, count, e)
+    !apart && against(text, rows, n, at, count, e)
 }
 
 // The fault of a word of an entry.
@@ -377,10 +376,10 @@ fn word_fault(text: &[u8], fault: base::Fault, w: WordAt) -> Result<(), Refusal>
     })
 }
 
-fn is_undeclared(fault: base::Fault) -> bool
-    ensures { result ≡ eqb (fault_number fault) 3 }
+fn is_undeclared(found: Result<usize, base::Fault>) -> bool
+    ensures { result ≡ eqb (number_in found) 3 }
 {
-    fault == base::Fault::Undeclared
+    found == Err(base::Fault::Undeclared)
 }
 
 // The fault of the entry e behind `count` others at the place `at`, from which it may be known to be apart.
@@ -399,17 +398,15 @@ fn entry_fault(
         → Refuses result (entry_fault (held text.now rows.now n) (take count es) o) }
 {
     let w = e.token;
-    if let Err(fault) = value_of(text, rows, n, INPUT, w.start, w.len) {
-        if is_undeclared(fault) {
-            return word_fault(text, fault, w);
-        }
-        if against_unless(text, rows, n, at, count, e, apart) {
-            return word_fault(text, base::Fault::Contradicts, w);
-        }
-        return word_fault(text, fault, w);
+    let token = value_of(text, rows, n, INPUT, w.start, w.len);
+    if is_undeclared(token) {
+        return word_fault(text, base::Fault::Undeclared, w);
     }
     if against_unless(text, rows, n, at, count, e, apart) {
         return word_fault(text, base::Fault::Contradicts, w);
+    }
+    if let Err(fault) = token {
+        return word_fault(text, fault, w);
     }
     match value_of(text, rows, n, OUTPUT, e.emits.start, e.emits.len) {
         Ok(_) => Ok(()),
@@ -425,11 +422,10 @@ fn entries_fault(text: &[u8], rows: &[u16], n: usize, at: usize) -> Result<(), R
     let mut marks = [0u8; MARKS];
     let mut i = at;
     let mut count: usize = 0;
+    // no range: what is read says where the next begins
     loop {
         let e = read_entry(text, i);
-        let v = find_value(text, rows, n, INPUT, e.token.start, e.token.len).unwrap_or(
-            symbols::NONE,
-        );
+        let v = find_value(text, rows, n, INPUT, e.token.start, e.token.len);
         let apart = is_apart(rows, n, &marks, v, e.level, e.right);
         entry_fault(text, rows, n, at, count, e, apart)?;
         let next = e.emits.next;
@@ -458,20 +454,13 @@ fn decl_fault(text: &[u8], rows: &[u16], n: usize, i: usize) -> Result<(), Refus
     ensures { (es : List Operator) (ws' : List Word) → ((decl_at text.now rows.now i).class ≡ 600 → OperatorsIn (words_at text.now (decl_at text.now rows.now i).value) ws' es)
         → Refuses result (decl_fault (held text.now rows.now n) (held text.now rows.now i) es (decl_at text.now rows.now i)) }
 {
-    let class = number(rows, ROW * i);
-    if class == TYPE {
-        return fault_if(text, rows, i, name_taken(text, rows, i, TYPE));
+    match number(rows, ROW * i) {
+        TYPE => fault_if(text, rows, i, name_taken(text, rows, i, TYPE)),
+        OPERATION => operation_fault(text, rows, n, i),
+        RULE => fault_if(text, rows, i, false),
+        OPERATORS => operators_fault(text, rows, n, i),
+        _ => fault_if(text, rows, i, entry_again(text, rows, i)),
     }
-    if class == OPERATION {
-        return operation_fault(text, rows, n, i);
-    }
-    if class == RULE {
-        return fault_if(text, rows, i, false);
-    }
-    if class == OPERATORS {
-        return operators_fault(text, rows, n, i);
-    }
-    fault_if(text, rows, i, entry_again(text, rows, i))
 }
 
 // The first fault of the first n declarations, for all entries that stand at their places.

@@ -2,9 +2,8 @@
 use mathlib.Core.Path.{sym}
 use Rattle.declarer.proofs.against_unless.Goals as goal
 
--- `declarer::against_unless` meets its contract.
-pub returns-then-apart : goal.returns-then-apart
-returns-then-apart c es ws' d h from o ws₁ is hap = sym (hap c.if-apart.true)
+pub returns-then-not-apart : goal.returns-then-not-apart
+returns-then-not-apart c es ws' d h from o ws₁ is hap = c.against.ensures es ws' d h from o ws₁ is
 
-pub returns : goal.returns
-returns c es ws' d h from o ws₁ is hap = c.against.ensures es ws' d h from o ws₁ is
+pub returns-else-not-apart : goal.returns-else-not-apart
+returns-else-not-apart c es ws' d h from o ws₁ is hap = rw c.if-not-apart.false (sym (hap c.if-not-apart.false))

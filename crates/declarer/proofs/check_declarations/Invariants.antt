@@ -1,7 +1,7 @@
 -- `declarer::check_declarations` meets its contract.
 use mathlib.Core.List.{List, []}
 use mathlib.Core.Path.{◌≡◌}
-use Prim.Native.Nat.{ℕ, ◌-◌, ◌≤◌}
+use Prim.Native.Nat.{ℕ, ◌-◌}
 use Rattle.declarations.specs.Decls.{decl_faults, EntriesAt}
 use Rattle.symbols.specs.Rows.{held, held_from}
 use Rattle.syntax.specs.Written.{Operator}

@@ -1,6 +1,5 @@
 -- `declarer::check_lines` meets its contract.
 use mathlib.Core.Path.{◌≡◌}
-use Prim.Native.Nat.{◌-◌, ◌≤◌}
 use Rattle.symbols.specs.Rows.{held}
 use Rattle.declarer.proofs.FaultLaws.{lines_from}
 use Rattle.declarer.proofs.check_lines.Given as goal

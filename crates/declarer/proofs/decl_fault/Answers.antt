@@ -10,25 +10,26 @@ use Rattle.declarer.proofs.decl_fault.Goals as goal
 pub name_taken-requires : goal.name_taken-requires
 name_taken-requires c = kept_less (omega arith) c.requires.0
 
-pub returns-then-class-eq-TYPE : goal.returns-then-class-eq-TYPE
-returns-then-class-eq-TYPE c es ws' d = moved (of-type (held c.args.text.now c.args.rows.now c.args.n) (held c.args.text.now c.args.rows.now c.args.i) (decl_at c.args.text.now c.args.rows.now c.args.i) es (class-at c.args.text.now c.args.rows.now c.args.i ∙ sym c.number-class.ensures.0 ∙ c.if-class-eq-TYPE.true)) (rw c.name_taken.ensures at c.fault_if.ensures)
+pub returns-in-5 : goal.returns-in-5
+returns-in-5 c es ws' d = moved (of-type (held c.args.text.now c.args.rows.now c.args.n) (held c.args.text.now c.args.rows.now c.args.i) (decl_at c.args.text.now c.args.rows.now c.args.i) es (class-at c.args.text.now c.args.rows.now c.args.i ∙ sym c.number.ensures.0 ∙ c.in-5.is)) (rw c.name_taken.ensures at c.fault_if.ensures)
 
-pub returns-then-class-eq-OPERATION : goal.returns-then-class-eq-OPERATION
-returns-then-class-eq-OPERATION c es ws' d = moved (of-operation (held c.args.text.now c.args.rows.now c.args.n) (held c.args.text.now c.args.rows.now c.args.i) (decl_at c.args.text.now c.args.rows.now c.args.i) es (class-at c.args.text.now c.args.rows.now c.args.i ∙ sym c.number-class.ensures.0 ∙ c.if-class-eq-OPERATION.true)) c.operation_fault.ensures
+pub returns-in-6 : goal.returns-in-6
+returns-in-6 c es ws' d = moved (of-operation (held c.args.text.now c.args.rows.now c.args.n) (held c.args.text.now c.args.rows.now c.args.i) (decl_at c.args.text.now c.args.rows.now c.args.i) es (class-at c.args.text.now c.args.rows.now c.args.i ∙ sym c.number.ensures.0 ∙ c.in-6.is)) c.operation_fault.ensures
 
-pub returns-then-class-eq-RULE : goal.returns-then-class-eq-RULE
-returns-then-class-eq-RULE c es ws' d = moved (of-rule (held c.args.text.now c.args.rows.now c.args.n) (held c.args.text.now c.args.rows.now c.args.i) (decl_at c.args.text.now c.args.rows.now c.args.i) es (class-at c.args.text.now c.args.rows.now c.args.i ∙ sym c.number-class.ensures.0 ∙ c.if-class-eq-RULE.true)) c.fault_if-then-class-eq-RULE.ensures
+pub returns-in-7 : goal.returns-in-7
+returns-in-7 c es ws' d = moved (of-rule (held c.args.text.now c.args.rows.now c.args.n) (held c.args.text.now c.args.rows.now c.args.i) (decl_at c.args.text.now c.args.rows.now c.args.i) es (class-at c.args.text.now c.args.rows.now c.args.i ∙ sym c.number.ensures.0 ∙ c.in-7.is)) c.fault_if-in-7.ensures
 
-pub returns-then-class-eq-OPERATORS : goal.returns-then-class-eq-OPERATORS
-returns-then-class-eq-OPERATORS c es ws' d =
-    let k = (class-at c.args.text.now c.args.rows.now c.args.i ∙ sym c.number-class.ensures.0 ∙ c.if-class-eq-OPERATORS.true) in
+pub returns-in-600 : goal.returns-in-600
+returns-in-600 c es ws' d =
+    let k = (class-at c.args.text.now c.args.rows.now c.args.i ∙ sym c.number.ensures.0 ∙ c.in-600.is) in
     moved (of-operators (held c.args.text.now c.args.rows.now c.args.n) (held c.args.text.now c.args.rows.now c.args.i) (decl_at c.args.text.now c.args.rows.now c.args.i) es k) (c.operators_fault.ensures es ws' (d k))
 
 pub entry_again-requires : goal.entry_again-requires
 entry_again-requires c = kept_less (omega arith) c.requires.0
 
-pub returns : goal.returns
-returns c es ws' d =
+pub returns-in_default : goal.returns-in_default
+returns-in_default c es ws' d =
+    let k = class-at c.args.text.now c.args.rows.now c.args.i ∙ sym c.number.ensures.0 in
     moved
-    (of_entry (held c.args.text.now c.args.rows.now c.args.n) (held c.args.text.now c.args.rows.now c.args.i) (decl_at c.args.text.now c.args.rows.now c.args.i) es (λ e. c.if-class-eq-TYPE.false (c.number-class.ensures.0 ∙ sym (class-at c.args.text.now c.args.rows.now c.args.i) ∙ e)) (λ e. c.if-class-eq-OPERATION.false (c.number-class.ensures.0 ∙ sym (class-at c.args.text.now c.args.rows.now c.args.i) ∙ e)) (λ e. c.if-class-eq-RULE.false (c.number-class.ensures.0 ∙ sym (class-at c.args.text.now c.args.rows.now c.args.i) ∙ e)) (λ e. c.if-class-eq-OPERATORS.false (c.number-class.ensures.0 ∙ sym (class-at c.args.text.now c.args.rows.now c.args.i) ∙ e)))
-    (rw c.entry_again.ensures at c.fault_if-2.ensures)
+    (of_entry (held c.args.text.now c.args.rows.now c.args.n) (held c.args.text.now c.args.rows.now c.args.i) (decl_at c.args.text.now c.args.rows.now c.args.i) es (λ e. omega (arith, k, e)) (λ e. omega (arith, k, e)) (λ e. omega (arith, k, e)) (λ e. omega (arith, k, e)))
+    (rw c.entry_again.ensures at c.fault_if-in_default.ensures)
