@@ -1,8 +1,8 @@
 -- Laws of sections and of the whole.
-use mathlib.Core.Bool.{Bool, true, false, not}
+use mathlib.Core.Bool.{Bool, false, not}
 use mathlib.Core.List.{List, [], ◌∷◌, ◌++◌}
 use mathlib.Core.Path.{◌≡◌, refl, sym, ap, subst, ◌∙◌}
-use Prim.Native.Nat.{ℕ, ◌+◌, ◌≤◌, max}
+use Prim.Native.Nat.{ℕ, ◌+◌, ◌≤◌}
 use native.Mathlib.Omega.{arith}
 use lib.Dec.{T, eqb}
 use lib.ListN.{length}
@@ -13,224 +13,76 @@ use Rattle.collector.proofs.Lines.{rules-lines}
 use Rattle.collector.proofs.Rows.{appends-none, appends-then}
 use Rattle.collector.proofs.Skips.{entries-behind}
 use Rattle.collector.proofs.Words.{next-kind, not-kind, option-none, reference-start, start-again, took-at, took-kind, took-past, took-rest, took-word}
-use Rattle.collector.specs.Collecting.{ASection, AllStand, all_more, all_none, Appends, BothIn, CollectedFor, Collects, ErrorsIn, Goes, InputsIn, Keeps, LinedIn, lined, LinesIn, MechanismIn, OperatorsSectionIn, OutputsIn, Puts, Room, RowsFor, Skips, SomeEntries, SomeOperations, SomeRules, SomeSections, Stands, TokensIn, TypeIn, part_of, a_mechanism, a_type, alone, doubled, some_both, some_errors, some_inputs, some_operators_lem, some_outputs}
+use Rattle.collector.specs.Collecting.{ASection, AllStand, all_more, all_none, Appends, class_of, CollectedFor, Collects, first_value, Goes, Keeps, ListedSection, LinedIn, lined, LinesIn, MechanismIn, OperatorsSectionIn, Puts, section_of, Room, RowsFor, Skips, SomeEntries, SomeOperations, SomeRules, SomeSections, Stands, strings_of, TokensIn, TypeIn, part_of, with_top, a_mechanism, a_type, alone, doubled, some_listed, some_operators_lem}
 use Rattle.collector.specs.declared.Entries.{Entries}
+use Rattle.collector.specs.declared.Listed.{Listed}
+use Rattle.collector.specs.declared.Listed.TheVariants.{Inputs, Outputs, Both, Errors}
 use Rattle.collector.specs.declared.Operated.{Operated}
 use Rattle.collector.specs.declared.Row.{Row}
 use Rattle.collector.specs.declared.Sectioned.{Sectioned}
 use Rattle.collector.specs.declared.Spot.{Spot}
 use Rattle.collector.specs.declared.State.{State}
 use Rattle.declarations.proofs.Whole.{length-section, length-sections}
-use Rattle.declarations.specs.Decls.{Decl, decls_of, entries_of, of_operators, of_type, place_of, rule_decls, section_decls, sections_decls}
+use Rattle.declarations.specs.Decls.{Decl, decls_of, entries_of, entry_decls, of_operators, of_type, place_of, rule_decls, section_decls, sections_decls}
 use Rattle.grammar.specs.Derived.{Took, ListedIn, OperationsIn, OperatorsIn, one_operator, last_operator, more_operators, SectionIn, inputs_in, both_in, outputs_in, errors_in, values_in, operations_in, operators_in, SectionsIn, no_section, more_sections, ProgramIn, a_program, names_in, names_in_all}
 use Rattle.reader.proofs.Laws.{apart}
 use Rattle.reader.proofs.SectionLaws.{kinds-then, next-max}
 use Rattle.reader.specs.Answers.{Here}
 use Rattle.scanner.specs.declared.WordAt.{WordAt}
 use Rattle.symbols.specs.Rows.{held, held_from, second_kind}
-use Rattle.syntax.specs.Sections.{Sofar, after, instructions, nothing, of_kind}
+use Rattle.syntax.specs.Sections.{Sofar, after, instructions, next_of, nothing, of_kind}
 use Rattle.syntax.specs.Written.{Entry, Operation, Operator, Section, inputs, outputs, both, errors, values, operations, operators, Program}
 use Rattle.words.specs.Words.{Word, words_at}
 
 -- Sections of entries
 
--- entries counted from v are those counted from u
-counted-from : {strings : Bool} {ws ws' : List Word} {es : List Entry} (u v : ℕ) → u ≡ v → ListedIn strings u ws ws' es → ListedIn strings v ws ws' es
-counted-from u v e q = rw e at q
+-- the state after a section
+kept : (l : Listed) (s : Sofar) (t : State) (es : List Entry) (top : ℕ) → Keeps s t → top ≡ next_of 0 es → Keeps (after s (section_of l es)) (with_top l t top)
+unfolding after
+kept Inputs s t es top k m = record { input = omega (arith, k.input, m, next-max s.input es); output = k.output; error = k.error; kinds = k.kinds }
+kept Outputs s t es top k m = record { input = k.input; output = omega (arith, k.output, m, next-max s.output es); error = k.error; kinds = k.kinds }
+kept Both s t es top k m = record { input = omega (arith, k.input, m, next-max s.input es); output = omega (arith, k.output, m, next-max s.output es); error = k.error; kinds = k.kinds }
+kept Errors s t es top k m = record { input = k.input; output = k.output; error = omega (arith, k.error, m, next-max s.error es); kinds = k.kinds }
 
-pub inputs_read : {text rows rows' : List ℕ} {at n i : ℕ} {t : State} {e : Entries} → SomeEntries (ListedIn true t.input (words_at text at)) text rows rows' at n 1 0 e → i ≡ max t.input e.top
-    → ASection InputsIn text rows rows' at n t (record { at = e.at; count = e.count; state = record { input = i; output = t.output; error = t.error; seen = t.seen } })
-unfolding after section_decls names_in
-inputs_read {text} {rows} {rows'} {at} {n} {i} {t} {e} u m = record { bounds = u.bounds; keeps = keeping; goes = going; appends = added; stands = standing } where
-  keeping : (s : Sofar) (ws' : List Word) (x : Section) → InputsIn s (words_at text at) ws' x → Keeps s t
-      → Keeps (after s x) (record { input = i; output = t.output; error = t.error; seen = t.seen })
-  keeping s ws' (inputs es) (some_inputs q) k = record {
-    input = omega (arith, m, k.input, u.most ws' es (counted-from _ _ (sym k.input) q), next-max s.input es);
-    output = k.output;
-    error = k.error;
-    kinds = k.kinds;
-  }
-  keeping s ws' (outputs _) x4 k = elim x4 [ ]
-  keeping s ws' (both _) x5 k = elim x5 [ ]
-  keeping s ws' (errors _) x6 k = elim x6 [ ]
-  keeping s ws' (values _ _) x8 k = elim x8 [ ]
-  keeping s ws' (operations _) x8 k = elim x8 [ ]
-  keeping s ws' (operators _ _) x10 k = elim x10 [ ]
+listed-names : (l : Listed) (es : List Entry) → names_in (section_of l es) ≡ length es
+unfolding names_in
+listed-names Inputs es = refl
+listed-names Outputs es = refl
+listed-names Both es = refl
+listed-names Errors es = refl
 
-  going : (s : Sofar) (ws' : List Word) (x : Section) → InputsIn s (words_at text at) ws' x → Keeps s t → Goes text at e.at ws'
-  going s ws' (inputs es) (some_inputs q) k = u.goes ws' es (counted-from _ _ (sym k.input) q)
-  going s ws' (outputs _) x4 k = elim x4 [ ]
-  going s ws' (both _) x5 k = elim x5 [ ]
-  going s ws' (errors _) x6 k = elim x6 [ ]
-  going s ws' (values _ _) x8 k = elim x8 [ ]
-  going s ws' (operations _) x8 k = elim x8 [ ]
-  going s ws' (operators _ _) x10 k = elim x10 [ ]
+listed-decls : (l : Listed) (n : ℕ) (es : List Entry) → section_decls n (section_of l es) ≡ entry_decls (class_of l) es
+unfolding section_decls
+listed-decls Inputs n es = refl
+listed-decls Outputs n es = refl
+listed-decls Both n es = refl
+listed-decls Errors n es = refl
 
-  added : (s : Sofar) (ws' : List Word) (x : Section) → InputsIn s (words_at text at) ws' x → Keeps s t → Room rows n (names_in x)
-      → Appends text rows rows' n e.count (section_decls n x)
-  added s ws' (inputs es) (some_inputs q) k r = u.appends ws' es (counted-from _ _ (sym k.input) q) r
-  added s ws' (outputs _) x5 k r = elim x5 [ ]
-  added s ws' (both _) x6 k r = elim x6 [ ]
-  added s ws' (errors _) x7 k r = elim x7 [ ]
-  added s ws' (values _ _) x9 k r = elim x9 [ ]
-  added s ws' (operations _) x9 k r = elim x9 [ ]
-  added s ws' (operators _ _) x11 k r = elim x11 [ ]
+listed-stands : (text : List ℕ) (l : Listed) (es : List Entry) → Stands text (section_of l es)
+listed-stands text Inputs es = tt
+listed-stands text Outputs es = tt
+listed-stands text Both es = tt
+listed-stands text Errors es = tt
 
-  standing : (s : Sofar) (ws' : List Word) (x : Section) → InputsIn s (words_at text at) ws' x → Stands text x
-  standing s ws' (inputs es) (some_inputs q) = tt
-  standing s ws' (outputs _) x3 = elim x3 [ ]
-  standing s ws' (both _) x4 = elim x4 [ ]
-  standing s ws' (errors _) x5 = elim x5 [ ]
-  standing s ws' (values _ _) x7 = elim x7 [ ]
-  standing s ws' (operations _) x7 = elim x7 [ ]
-  standing s ws' (operators _ _) x9 = elim x9 [ ]
+pub listed-section : {text rows rows' : List ℕ} {at n v c : ℕ} {b : Bool} {l : Listed} {t r : State} {e : Entries} → v ≡ first_value l t.input t.output t.error → c ≡ class_of l → b ≡ strings_of l
+    → SomeEntries (ListedIn b v (words_at text at)) text rows rows' at n c 0 e → r ≡ with_top l t e.top → ASection (ListedSection l) text rows rows' at n t (record { at = e.at; count = e.count; state = r })
+listed-section {text} {rows} {rows'} {at} {n} {v} {c} {b} {l} {t} {r} {e} f g h u m = record { bounds = u.bounds; keeps = keeping; goes = going; appends = added; stands = standing } where
+  from-v : (s : Sofar) {ws' : List Word} {es : List Entry} → Keeps s t → ListedIn (strings_of l) (first_value l s.input s.output s.error) (words_at text at) ws' es → ListedIn b v (words_at text at) ws' es
+  from-v s k q = rw (f, h, k.input, k.output, k.error) q
 
-pub outputs-read : {text rows rows' : List ℕ} {at n o : ℕ} {t : State} {e : Entries} → SomeEntries (ListedIn true t.output (words_at text at)) text rows rows' at n 2 0 e → o ≡ max t.output e.top
-    → ASection OutputsIn text rows rows' at n t (record { at = e.at; count = e.count; state = record { input = t.input; output = o; error = t.error; seen = t.seen } })
-unfolding after section_decls names_in
-outputs-read {text} {rows} {rows'} {at} {n} {o} {t} {e} u m = record { bounds = u.bounds; keeps = keeping; goes = going; appends = added; stands = standing } where
-  keeping : (s : Sofar) (ws' : List Word) (x : Section) → OutputsIn s (words_at text at) ws' x → Keeps s t
-      → Keeps (after s x) (record { input = t.input; output = o; error = t.error; seen = t.seen })
-  keeping s ws' (outputs es) (some_outputs q) k = record {
-    input = k.input;
-    output = omega (arith, m, k.output, u.most ws' es (counted-from _ _ (sym k.output) q), next-max s.output es);
-    error = k.error;
-    kinds = k.kinds;
-  }
-  keeping s ws' (inputs _) x4 k = elim x4 [ ]
-  keeping s ws' (both _) x5 k = elim x5 [ ]
-  keeping s ws' (errors _) x6 k = elim x6 [ ]
-  keeping s ws' (values _ _) x8 k = elim x8 [ ]
-  keeping s ws' (operations _) x8 k = elim x8 [ ]
-  keeping s ws' (operators _ _) x10 k = elim x10 [ ]
+  keeping : (s : Sofar) (ws' : List Word) (x : Section) → ListedSection l s (words_at text at) ws' x → Keeps s t → Keeps (after s x) r
+  keeping s ws' x (some_listed {es = es} p q) k = rw (p, m) (kept l s t es e.top k (u.most ws' es (from-v s k q)))
 
-  going : (s : Sofar) (ws' : List Word) (x : Section) → OutputsIn s (words_at text at) ws' x → Keeps s t → Goes text at e.at ws'
-  going s ws' (outputs es) (some_outputs q) k = u.goes ws' es (counted-from _ _ (sym k.output) q)
-  going s ws' (inputs _) x4 k = elim x4 [ ]
-  going s ws' (both _) x5 k = elim x5 [ ]
-  going s ws' (errors _) x6 k = elim x6 [ ]
-  going s ws' (values _ _) x8 k = elim x8 [ ]
-  going s ws' (operations _) x8 k = elim x8 [ ]
-  going s ws' (operators _ _) x10 k = elim x10 [ ]
+  going : (s : Sofar) (ws' : List Word) (x : Section) → ListedSection l s (words_at text at) ws' x → Keeps s t → Goes text at e.at ws'
+  going s ws' x (some_listed {es = es} p q) k = u.goes ws' es (from-v s k q)
 
-  added : (s : Sofar) (ws' : List Word) (x : Section) → OutputsIn s (words_at text at) ws' x → Keeps s t → Room rows n (names_in x)
-      → Appends text rows rows' n e.count (section_decls n x)
-  added s ws' (outputs es) (some_outputs q) k r = u.appends ws' es (counted-from _ _ (sym k.output) q) r
-  added s ws' (inputs _) x5 k r = elim x5 [ ]
-  added s ws' (both _) x6 k r = elim x6 [ ]
-  added s ws' (errors _) x7 k r = elim x7 [ ]
-  added s ws' (values _ _) x9 k r = elim x9 [ ]
-  added s ws' (operations _) x9 k r = elim x9 [ ]
-  added s ws' (operators _ _) x11 k r = elim x11 [ ]
+  added : (s : Sofar) (ws' : List Word) (x : Section) → ListedSection l s (words_at text at) ws' x → Keeps s t → Room rows n (names_in x) → Appends text rows rows' n e.count (section_decls n x)
+  added s ws' x (some_listed {es = es} p q) k o = rw (p, listed-decls l n es, ← g) (u.appends ws' es (from-v s k q) (rw (p, listed-names l es) at o))
 
-  standing : (s : Sofar) (ws' : List Word) (x : Section) → OutputsIn s (words_at text at) ws' x → Stands text x
-  standing s ws' (outputs es) (some_outputs q) = tt
-  standing s ws' (inputs _) x3 = elim x3 [ ]
-  standing s ws' (both _) x4 = elim x4 [ ]
-  standing s ws' (errors _) x5 = elim x5 [ ]
-  standing s ws' (values _ _) x7 = elim x7 [ ]
-  standing s ws' (operations _) x7 = elim x7 [ ]
-  standing s ws' (operators _ _) x9 = elim x9 [ ]
+  standing : (s : Sofar) (ws' : List Word) (x : Section) → ListedSection l s (words_at text at) ws' x → Stands text x
+  standing s ws' x (some_listed {es = es} p q) = rw p (listed-stands text l es)
 
-pub both_read : {text rows rows' : List ℕ} {at n v i o : ℕ} {t : State} {e : Entries} → v ≡ max t.input t.output → SomeEntries (ListedIn true v (words_at text at)) text rows rows' at n 3 0 e
-    → i ≡ max t.input e.top → o ≡ max t.output e.top
-    → ASection BothIn text rows rows' at n t (record { at = e.at; count = e.count; state = record { input = i; output = o; error = t.error; seen = t.seen } })
-unfolding after section_decls names_in
-both_read {text} {rows} {rows'} {at} {n} {v} {i} {o} {t} {e} f u m l = record { bounds = u.bounds; keeps = keeping; goes = going; appends = added; stands = standing } where
-  from-v : (s : Sofar) {ws' : List Word} {es : List Entry} → Keeps s t → ListedIn true (max s.input s.output) (words_at text at) ws' es → ListedIn true v (words_at text at) ws' es
-  from-v s k q = counted-from _ _ (omega (arith, k.input, k.output)) q
-
-  keeping : (s : Sofar) (ws' : List Word) (x : Section) → BothIn s (words_at text at) ws' x → Keeps s t
-      → Keeps (after s x) (record { input = i; output = o; error = t.error; seen = t.seen })
-  keeping s ws' (both es) (some_both q) k = record {
-    input = omega (arith, m, k.input, u.most ws' es (from-v s k q), next-max s.input es);
-    output = omega (arith, l, k.output, u.most ws' es (from-v s k q), next-max s.output es);
-    error = k.error;
-    kinds = k.kinds;
-  }
-  keeping s ws' (inputs _) x4 k = elim x4 [ ]
-  keeping s ws' (outputs _) x5 k = elim x5 [ ]
-  keeping s ws' (errors _) x6 k = elim x6 [ ]
-  keeping s ws' (values _ _) x8 k = elim x8 [ ]
-  keeping s ws' (operations _) x8 k = elim x8 [ ]
-  keeping s ws' (operators _ _) x10 k = elim x10 [ ]
-
-  going : (s : Sofar) (ws' : List Word) (x : Section) → BothIn s (words_at text at) ws' x → Keeps s t → Goes text at e.at ws'
-  going s ws' (both es) (some_both q) k = u.goes ws' es (from-v s k q)
-  going s ws' (inputs _) x4 k = elim x4 [ ]
-  going s ws' (outputs _) x5 k = elim x5 [ ]
-  going s ws' (errors _) x6 k = elim x6 [ ]
-  going s ws' (values _ _) x8 k = elim x8 [ ]
-  going s ws' (operations _) x8 k = elim x8 [ ]
-  going s ws' (operators _ _) x10 k = elim x10 [ ]
-
-  added : (s : Sofar) (ws' : List Word) (x : Section) → BothIn s (words_at text at) ws' x → Keeps s t → Room rows n (names_in x)
-      → Appends text rows rows' n e.count (section_decls n x)
-  added s ws' (both es) (some_both q) k r = u.appends ws' es (from-v s k q) r
-  added s ws' (inputs _) x5 k r = elim x5 [ ]
-  added s ws' (outputs _) x6 k r = elim x6 [ ]
-  added s ws' (errors _) x7 k r = elim x7 [ ]
-  added s ws' (values _ _) x9 k r = elim x9 [ ]
-  added s ws' (operations _) x9 k r = elim x9 [ ]
-  added s ws' (operators _ _) x11 k r = elim x11 [ ]
-
-  standing : (s : Sofar) (ws' : List Word) (x : Section) → BothIn s (words_at text at) ws' x → Stands text x
-  standing s ws' (both es) (some_both q) = tt
-  standing s ws' (inputs _) x3 = elim x3 [ ]
-  standing s ws' (outputs _) x4 = elim x4 [ ]
-  standing s ws' (errors _) x5 = elim x5 [ ]
-  standing s ws' (values _ _) x7 = elim x7 [ ]
-  standing s ws' (operations _) x7 = elim x7 [ ]
-  standing s ws' (operators _ _) x9 = elim x9 [ ]
-
-pub errors-read : {text rows rows' : List ℕ} {at n o : ℕ} {t : State} {e : Entries} → SomeEntries (ListedIn false t.error (words_at text at)) text rows rows' at n 4 0 e → o ≡ max t.error e.top
-    → ASection ErrorsIn text rows rows' at n t (record { at = e.at; count = e.count; state = record { input = t.input; output = t.output; error = o; seen = t.seen } })
-unfolding after section_decls names_in
-errors-read {text} {rows} {rows'} {at} {n} {o} {t} {e} u m = record { bounds = u.bounds; keeps = keeping; goes = going; appends = added; stands = standing } where
-  keeping : (s : Sofar) (ws' : List Word) (x : Section) → ErrorsIn s (words_at text at) ws' x → Keeps s t
-      → Keeps (after s x) (record { input = t.input; output = t.output; error = o; seen = t.seen })
-  keeping s ws' (errors es) (some_errors q) k = record {
-    input = k.input;
-    output = k.output;
-    error = omega (arith, m, k.error, u.most ws' es (counted-from _ _ (sym k.error) q), next-max s.error es);
-    kinds = k.kinds;
-  }
-  keeping s ws' (inputs _) x4 k = elim x4 [ ]
-  keeping s ws' (outputs _) x5 k = elim x5 [ ]
-  keeping s ws' (both _) x6 k = elim x6 [ ]
-  keeping s ws' (values _ _) x8 k = elim x8 [ ]
-  keeping s ws' (operations _) x8 k = elim x8 [ ]
-  keeping s ws' (operators _ _) x10 k = elim x10 [ ]
-
-  going : (s : Sofar) (ws' : List Word) (x : Section) → ErrorsIn s (words_at text at) ws' x → Keeps s t → Goes text at e.at ws'
-  going s ws' (errors es) (some_errors q) k = u.goes ws' es (counted-from _ _ (sym k.error) q)
-  going s ws' (inputs _) x4 k = elim x4 [ ]
-  going s ws' (outputs _) x5 k = elim x5 [ ]
-  going s ws' (both _) x6 k = elim x6 [ ]
-  going s ws' (values _ _) x8 k = elim x8 [ ]
-  going s ws' (operations _) x8 k = elim x8 [ ]
-  going s ws' (operators _ _) x10 k = elim x10 [ ]
-
-  added : (s : Sofar) (ws' : List Word) (x : Section) → ErrorsIn s (words_at text at) ws' x → Keeps s t → Room rows n (names_in x)
-      → Appends text rows rows' n e.count (section_decls n x)
-  added s ws' (errors es) (some_errors q) k r = u.appends ws' es (counted-from _ _ (sym k.error) q) r
-  added s ws' (inputs _) x5 k r = elim x5 [ ]
-  added s ws' (outputs _) x6 k r = elim x6 [ ]
-  added s ws' (both _) x7 k r = elim x7 [ ]
-  added s ws' (values _ _) x9 k r = elim x9 [ ]
-  added s ws' (operations _) x9 k r = elim x9 [ ]
-  added s ws' (operators _ _) x11 k r = elim x11 [ ]
-
-  standing : (s : Sofar) (ws' : List Word) (x : Section) → ErrorsIn s (words_at text at) ws' x → Stands text x
-  standing s ws' (errors es) (some_errors q) = tt
-  standing s ws' (inputs _) x3 = elim x3 [ ]
-  standing s ws' (outputs _) x4 = elim x4 [ ]
-  standing s ws' (both _) x5 = elim x5 [ ]
-  standing s ws' (values _ _) x7 = elim x7 [ ]
-  standing s ws' (operations _) x7 = elim x7 [ ]
-  standing s ws' (operators _ _) x9 = elim x9 [ ]
-
-pub tokens-alone : {text rows rows' : List ℕ} {at n : ℕ} {t : State} {w : WordAt} {r : Sectioned} → Here text at w → (w.kind ≡ 261 → ⊥) → ASection InputsIn text rows rows' at n t r
+pub tokens-alone : {text rows rows' : List ℕ} {at n : ℕ} {t : State} {w : WordAt} {r : Sectioned} → Here text at w → (w.kind ≡ 261 → ⊥) → ASection (ListedSection Inputs) text rows rows' at n t r
     → ASection TokensIn text rows rows' at n t r
 tokens-alone {text} {rows} {rows'} {at} {n} {t} {w} {r} h e u = record {
   bounds = u.bounds;
@@ -239,7 +91,7 @@ tokens-alone {text} {rows} {rows'} {at} {n} {t} {w} {r} h e u = record {
   appends = λ s ws' x q k o. u.appends s ws' x (inner q) k o;
   stands = λ s ws' x q. u.stands s ws' x (inner q);
 } where
-  inner : {s : Sofar} {ws' : List Word} {x : Section} → TokensIn s (words_at text at) ws' x → InputsIn s (words_at text at) ws' x
+  inner : {s : Sofar} {ws' : List Word} {x : Section} → TokensIn s (words_at text at) ws' x → ListedSection Inputs s (words_at text at) ws' x
   inner (alone m q) = q
   inner (doubled a q) = absurd (e (took-kind h a))
 
@@ -255,10 +107,10 @@ behind h f u = record {
   stands = λ s ws' x q. u.stands s ws' x (f s ws' x q);
 }
 
-pub tokens-both : {text rows rows' : List ℕ} {at n : ℕ} {t : State} {w : WordAt} {r : Sectioned} → Here text at w → w.kind ≡ 261 → ASection BothIn text rows rows' w.next n t r
+pub tokens-both : {text rows rows' : List ℕ} {at n : ℕ} {t : State} {w : WordAt} {r : Sectioned} → Here text at w → w.kind ≡ 261 → ASection (ListedSection Both) text rows rows' w.next n t r
     → ASection TokensIn text rows rows' at n t r
 tokens-both {text} {at = at} {w = w} h e u = behind h inner u where
-  inner : (s : Sofar) (ws' : List Word) (x : Section) → TokensIn s (words_at text at) ws' x → BothIn s (words_at text w.next) ws' x
+  inner : (s : Sofar) (ws' : List Word) (x : Section) → TokensIn s (words_at text at) ws' x → ListedSection Both s (words_at text w.next) ws' x
   inner s ws' x (alone m q) = absurd (not-kind 261 h m e)
   inner s ws' x (doubled a q) = rw (took-rest h (omega arith) a) at q
 
@@ -452,38 +304,42 @@ operators-read {text} {rows} {rows'} {at} {n} {c} {to} {t} {w} {colon} {first} h
 differ : {text : List ℕ} {at : ℕ} {w : WordAt} {v : Word} {ws' : List Word} (j k : ℕ) → Here text at w → w.kind ≡ j → Took k (words_at text at) v ws' → T (not (eqb j k)) → ⊥
 differ j k h e t d = apart j k e (took-kind h t) d
 
+-- entries of a section that says what they are
+listed-in : (l : Listed) {s : Sofar} {ws ws' : List Word} {es : List Entry} {x : Section} → x ≡ section_of l es → ListedIn (strings_of l) (first_value l s.input s.output s.error) ws ws' es → ListedSection l s ws ws' x
+listed-in l p q = some_listed p q
+
 pub section-tokens : {text rows rows' : List ℕ} {at n : ℕ} {t : State} {w : WordAt} {r : Sectioned} → Here text at w → w.kind ≡ 260 → ASection TokensIn text rows rows' w.next n t r
     → ASection SectionIn text rows rows' at n t r
 section-tokens {text} {at = at} {w = w} h e u = behind h inner u where
   inner : (s : Sofar) (ws' : List Word) (x : Section) → SectionIn s (words_at text at) ws' x → TokensIn s (words_at text w.next) ws' x
-  inner s ws' (inputs es) (inputs_in a m q) = let g = took-rest h (omega arith) a in alone (rw g at m) (some_inputs (rw g at q))
-  inner s ws' (both es) (both_in a b q) = doubled (took-at (took-rest h (omega arith) a) b) (some_both q)
+  inner s ws' (inputs es) (inputs_in a m q) = let g = took-rest h (omega arith) a in alone (rw g at m) (listed-in Inputs refl (rw g at q))
+  inner s ws' (both es) (both_in a b q) = doubled (took-at (took-rest h (omega arith) a) b) (listed-in Both refl q)
   inner s ws' (outputs es) (outputs_in a q) = absurd (differ 260 261 h e a tt)
   inner s ws' (errors es) (errors_in a q) = absurd (differ 260 262 h e a tt)
   inner s ws' (values v es) (values_in a b q) = absurd (differ 260 263 h e a tt)
   inner s ws' (operations os) (operations_in a b d q) = absurd (differ 260 264 h e a tt)
   inner s ws' (operators v os) (operators_in a l b d q) = absurd (differ 260 257 h e a tt)
 
-pub section-outputs : {text rows rows' : List ℕ} {at n : ℕ} {t : State} {w : WordAt} {r : Sectioned} → Here text at w → w.kind ≡ 261 → ASection OutputsIn text rows rows' w.next n t r
+pub section-outputs : {text rows rows' : List ℕ} {at n : ℕ} {t : State} {w : WordAt} {r : Sectioned} → Here text at w → w.kind ≡ 261 → ASection (ListedSection Outputs) text rows rows' w.next n t r
     → ASection SectionIn text rows rows' at n t r
 section-outputs {text} {at = at} {w = w} h e u = behind h inner u where
-  inner : (s : Sofar) (ws' : List Word) (x : Section) → SectionIn s (words_at text at) ws' x → OutputsIn s (words_at text w.next) ws' x
+  inner : (s : Sofar) (ws' : List Word) (x : Section) → SectionIn s (words_at text at) ws' x → ListedSection Outputs s (words_at text w.next) ws' x
   inner s ws' (inputs es) (inputs_in a m q) = absurd (differ 261 260 h e a tt)
   inner s ws' (both es) (both_in a b q) = absurd (differ 261 260 h e a tt)
-  inner s ws' (outputs es) (outputs_in a q) = some_outputs (rw (took-rest h (omega arith) a) at q)
+  inner s ws' (outputs es) (outputs_in a q) = listed-in Outputs refl (rw (took-rest h (omega arith) a) at q)
   inner s ws' (errors es) (errors_in a q) = absurd (differ 261 262 h e a tt)
   inner s ws' (values v es) (values_in a b q) = absurd (differ 261 263 h e a tt)
   inner s ws' (operations os) (operations_in a b d q) = absurd (differ 261 264 h e a tt)
   inner s ws' (operators v os) (operators_in a l b d q) = absurd (differ 261 257 h e a tt)
 
-pub section-errors : {text rows rows' : List ℕ} {at n : ℕ} {t : State} {w : WordAt} {r : Sectioned} → Here text at w → w.kind ≡ 262 → ASection ErrorsIn text rows rows' w.next n t r
+pub section-errors : {text rows rows' : List ℕ} {at n : ℕ} {t : State} {w : WordAt} {r : Sectioned} → Here text at w → w.kind ≡ 262 → ASection (ListedSection Errors) text rows rows' w.next n t r
     → ASection SectionIn text rows rows' at n t r
 section-errors {text} {at = at} {w = w} h e u = behind h inner u where
-  inner : (s : Sofar) (ws' : List Word) (x : Section) → SectionIn s (words_at text at) ws' x → ErrorsIn s (words_at text w.next) ws' x
+  inner : (s : Sofar) (ws' : List Word) (x : Section) → SectionIn s (words_at text at) ws' x → ListedSection Errors s (words_at text w.next) ws' x
   inner s ws' (inputs es) (inputs_in a m q) = absurd (differ 262 260 h e a tt)
   inner s ws' (both es) (both_in a b q) = absurd (differ 262 260 h e a tt)
   inner s ws' (outputs es) (outputs_in a q) = absurd (differ 262 261 h e a tt)
-  inner s ws' (errors es) (errors_in a q) = some_errors (rw (took-rest h (omega arith) a) at q)
+  inner s ws' (errors es) (errors_in a q) = listed-in Errors refl (rw (took-rest h (omega arith) a) at q)
   inner s ws' (values v es) (values_in a b q) = absurd (differ 262 263 h e a tt)
   inner s ws' (operations os) (operations_in a b d q) = absurd (differ 262 264 h e a tt)
   inner s ws' (operators v os) (operators_in a l b d q) = absurd (differ 262 257 h e a tt)

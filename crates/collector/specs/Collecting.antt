@@ -8,6 +8,8 @@ use Rattle.collector.specs.declared.Collected.{Collected}
 use Rattle.collector.specs.declared.Entered.{Entered}
 use Rattle.collector.specs.declared.Entries.{Entries}
 use Rattle.collector.specs.declared.Head.{Head}
+use Rattle.collector.specs.declared.Listed.{Listed}
+use Rattle.collector.specs.declared.Listed.TheVariants.{Inputs, Outputs, Both, Errors}
 use Rattle.collector.specs.declared.Operated.{Operated}
 use Rattle.collector.specs.declared.Part.{Part}
 use Rattle.collector.specs.declared.Row.{Row}
@@ -189,22 +191,47 @@ pub record Keeps (s : Sofar) (t : State) : Type 0 where
   pub error : t.error ≡ s.error
   pub kinds : Kinds s.seen t.seen
 
--- sections after the word that says which
-pub data InputsIn (s : Sofar) (ws ws' : List Word) : Section → Type 0 where
-  some_inputs : {es : List Entry} → ListedIn true s.input ws ws' es → InputsIn s ws ws' (inputs es)
+-- what entries of a section are: their class, whether they may have strings, the value from which they are counted, and the section
 
-pub data BothIn (s : Sofar) (ws ws' : List Word) : Section → Type 0 where
-  some_both : {es : List Entry} → ListedIn true (max s.input s.output) ws ws' es → BothIn s ws ws' (both es)
+abbrev pub class_of : Listed → ℕ
+class_of Inputs = 1
+class_of Outputs = 2
+class_of Both = 3
+class_of Errors = 4
+
+abbrev pub strings_of : Listed → Bool
+strings_of Inputs = true
+strings_of Outputs = true
+strings_of Both = true
+strings_of Errors = false
+
+abbrev pub first_value : Listed → ℕ → ℕ → ℕ → ℕ
+first_value Inputs i o e = i
+first_value Outputs i o e = o
+first_value Both i o e = max i o
+first_value Errors i o e = e
+
+abbrev pub section_of : Listed → List Entry → Section
+section_of Inputs es = inputs es
+section_of Outputs es = outputs es
+section_of Both es = both es
+section_of Errors es = errors es
+
+-- the state after entries, the greatest of which is one below `top`
+abbrev pub with_top : Listed → State → ℕ → State
+with_top Inputs t top = record { input = max t.input top; output = t.output; error = t.error; seen = t.seen }
+with_top Outputs t top = record { input = t.input; output = max t.output top; error = t.error; seen = t.seen }
+with_top Both t top = record { input = max t.input top; output = max t.output top; error = t.error; seen = t.seen }
+with_top Errors t top = record { input = t.input; output = t.output; error = max t.error top; seen = t.seen }
+
+-- sections after the word that says which
+
+pub data ListedSection (l : Listed) (s : Sofar) (ws ws' : List Word) : Section → Type 0 where
+  some_listed : {es : List Entry} {x : Section} → x ≡ section_of l es → ListedIn (strings_of l) (first_value l s.input s.output s.error) ws ws' es → ListedSection l s ws ws' x
 
 pub data TokensIn (s : Sofar) (ws ws' : List Word) : Section → Type 0 where
-  alone : {x : Section} → Not 261 ws → InputsIn s ws ws' x → TokensIn s ws ws' x
-  doubled : {second : Word} {ws₁ : List Word} {x : Section} → Took 261 ws second ws₁ → BothIn s ws₁ ws' x → TokensIn s ws ws' x
-
-pub data OutputsIn (s : Sofar) (ws ws' : List Word) : Section → Type 0 where
-  some_outputs : {es : List Entry} → ListedIn true s.output ws ws' es → OutputsIn s ws ws' (outputs es)
-
-pub data ErrorsIn (s : Sofar) (ws ws' : List Word) : Section → Type 0 where
-  some_errors : {es : List Entry} → ListedIn false s.error ws ws' es → ErrorsIn s ws ws' (errors es)
+  alone : {x : Section} → Not 261 ws → ListedSection Inputs s ws ws' x → TokensIn s ws ws' x
+  doubled : {second : Word} {ws₁ : List Word} {x : Section} → Took 261 ws second ws₁ → ListedSection Both s ws₁ ws' x → TokensIn s ws ws' x
 
 pub data TypeIn (s : Sofar) (ws ws' : List Word) : Section → Type 0 where
   a_type : {w : Word} {ws₁ : List Word} {es : List Entry} → Took 257 ws w ws₁ → ListedIn false 0 ws₁ ws' es → TypeIn s ws ws' (values w es)

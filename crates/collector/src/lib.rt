@@ -7,7 +7,7 @@ ghost use Rattle.grammar.specs.Derived.{SpellingIn, GivesIn, TakesIn, EntriesIn,
 ghost use Rattle.reader.specs.Counting.{count_of, one_more};
 ghost use Rattle.syntax.specs.Sections.{first_of};
 ghost use Rattle.words.specs.Words.{words_at};
-ghost use Rattle.collector.specs.Collecting.{Small, set_two, set_words, Puts, part_of, Reads, Counts, AHead, AnEntry, SomeEntries, AnOperation, SomeOperations, TokensIn, InputsIn, BothIn, OutputsIn, ErrorsIn, TypeIn, MechanismIn, OperatorsSectionIn, ASection, SomeSections, Skips, ARule, SomeRules, Collects};
+ghost use Rattle.collector.specs.Collecting.{Small, set_two, set_words, Puts, part_of, Reads, Counts, AHead, AnEntry, SomeEntries, AnOperation, SomeOperations, class_of, strings_of, first_value, with_top, ListedSection, TokensIn, TypeIn, MechanismIn, OperatorsSectionIn, ASection, SomeSections, Skips, ARule, SomeRules, Collects};
 
 use reader::{Seen, count_of, look, number_of, one_more};
 use scanner::WordAt;
@@ -118,6 +118,15 @@ pub struct State {
     pub output: usize,
     pub error: usize,
     pub seen: Seen,
+}
+
+// What a section of entries lists.
+#[derive(Clone, Copy, Debug, PartialEq, Eq)]
+pub enum Listed {
+    Inputs,
+    Outputs,
+    Both,
+    Errors,
 }
 
 // A section: and the state after it.
@@ -431,6 +440,83 @@ fn collect_operations(
 
 // Sections
 
+fn class_of(listed: Listed) -> usize
+    ensures same { result ≡ class_of listed }
+    ensures low { result ≤ 4 }
+{
+    match listed {
+        Listed::Inputs => symbols::INPUT,
+        Listed::Outputs => symbols::OUTPUT,
+        Listed::Both => symbols::BOTH,
+        Listed::Errors => symbols::ERROR,
+    }
+}
+
+// Such entries may have strings.
+fn strings_of(listed: Listed) -> bool
+    ensures { result ≡ strings_of listed }
+{
+    match listed {
+        Listed::Inputs | Listed::Outputs | Listed::Both => true,
+        Listed::Errors => false,
+    }
+}
+
+// The value from which such entries are counted.
+fn first_value(listed: Listed, state: State) -> usize
+    ensures { result ≡ first_value listed state.input state.output state.error }
+{
+    match listed {
+        Listed::Inputs => state.input,
+        Listed::Outputs => state.output,
+        Listed::Both => state.input.max(state.output),
+        Listed::Errors => state.error,
+    }
+}
+
+// The state after such entries, `top` being one above their greatest value.
+fn with_top(listed: Listed, state: State, top: usize) -> State
+    ensures { result ≡ with_top listed state top }
+{
+    let input = state.input.max(top);
+    let output = state.output.max(top);
+    match listed {
+        Listed::Inputs => State { input, ..state },
+        Listed::Outputs => State { output, ..state },
+        Listed::Both => State {
+            input,
+            output,
+            ..state
+        },
+        Listed::Errors => State {
+            error: state.error.max(top),
+            ..state
+        },
+    }
+}
+
+// A section of entries after its head.
+fn collect_group(
+    text: &[u8],
+    at: usize,
+    rows: &mut [u16],
+    count: usize,
+    state: State,
+    listed: Listed,
+) -> Sectioned
+    requires { (at ≤ length text.now) × (length text.now ≤ 65535) × (count ≤ 512) }
+    ensures { ASection (ListedSection listed) text.now rows.old rows.new at count state result }
+{
+    let v = first_value(listed, state);
+    let class = class_of(listed);
+    let e = collect_listed(text, at, rows, count, class, strings_of(listed), v);
+    Sectioned {
+        at: e.at,
+        count: e.count,
+        state: with_top(listed, state, e.top),
+    }
+}
+
 // An input section, or one of inputs and outputs, after its word `input`.
 fn collect_tokens(text: &[u8], at: usize, rows: &mut [u16], count: usize, state: State) -> Sectioned
     requires { (at ≤ length text.now) × (length text.now ≤ 65535) × (count ≤ 512) }
@@ -438,82 +524,9 @@ fn collect_tokens(text: &[u8], at: usize, rows: &mut [u16], count: usize, state:
 {
     let w = look(text, at);
     if w.kind == words::OUTPUT {
-        return collect_both(text, w.next, rows, count, state);
-    }
-    collect_inputs(text, at, rows, count, state)
-}
-
-fn collect_both(text: &[u8], at: usize, rows: &mut [u16], count: usize, state: State) -> Sectioned
-    requires { (at ≤ length text.now) × (length text.now ≤ 65535) × (count ≤ 512) }
-    ensures { ASection BothIn text.now rows.old rows.new at count state result }
-{
-    let v = state.input.max(state.output);
-    let e = collect_listed(text, at, rows, count, symbols::BOTH, true, v);
-    let after = State {
-        input: state.input.max(e.top),
-        output: state.output.max(e.top),
-        ..state
-    };
-    Sectioned {
-        at: e.at,
-        count: e.count,
-        state: after,
-    }
-}
-
-fn collect_inputs(text: &[u8], at: usize, rows: &mut [u16], count: usize, state: State) -> Sectioned
-    requires { (at ≤ length text.now) × (length text.now ≤ 65535) × (count ≤ 512) }
-    ensures { ASection InputsIn text.now rows.old rows.new at count state result }
-{
-    let e = collect_listed(text, at, rows, count, symbols::INPUT, true, state.input);
-    let after = State {
-        input: state.input.max(e.top),
-        ..state
-    };
-    Sectioned {
-        at: e.at,
-        count: e.count,
-        state: after,
-    }
-}
-
-// An output section after its head.
-fn collect_outputs(
-    text: &[u8],
-    at: usize,
-    rows: &mut [u16],
-    count: usize,
-    state: State,
-) -> Sectioned
-    requires { (at ≤ length text.now) × (length text.now ≤ 65535) × (count ≤ 512) }
-    ensures { ASection OutputsIn text.now rows.old rows.new at count state result }
-{
-    let e = collect_listed(text, at, rows, count, symbols::OUTPUT, true, state.output);
-    let after = State {
-        output: state.output.max(e.top),
-        ..state
-    };
-    Sectioned {
-        at: e.at,
-        count: e.count,
-        state: after,
-    }
-}
-
-// An error section after its head.
-fn collect_errors(text: &[u8], at: usize, rows: &mut [u16], count: usize, state: State) -> Sectioned
-    requires { (at ≤ length text.now) × (length text.now ≤ 65535) × (count ≤ 512) }
-    ensures { ASection ErrorsIn text.now rows.old rows.new at count state result }
-{
-    let e = collect_listed(text, at, rows, count, symbols::ERROR, false, state.error);
-    let after = State {
-        error: state.error.max(e.top),
-        ..state
-    };
-    Sectioned {
-        at: e.at,
-        count: e.count,
-        state: after,
+        collect_group(text, w.next, rows, count, state, Listed::Both)
+    } else {
+        collect_group(text, at, rows, count, state, Listed::Inputs)
     }
 }
 
@@ -626,8 +639,8 @@ fn collect_section(
     let w = look(text, at);
     match w.kind {
         words::INPUT => collect_tokens(text, w.next, rows, count, state),
-        words::OUTPUT => collect_outputs(text, w.next, rows, count, state),
-        words::ERROR => collect_errors(text, w.next, rows, count, state),
+        words::OUTPUT => collect_group(text, w.next, rows, count, state, Listed::Outputs),
+        words::ERROR => collect_group(text, w.next, rows, count, state, Listed::Errors),
         words::TYPE => collect_type(text, w.next, rows, count, state),
         words::NAME => collect_operators(text, w.next, rows, count, state),
         _ => collect_mechanism(text, w.next, rows, count, state),
