@@ -104,7 +104,7 @@ pub struct Entries {
 }
 
 // Operations: and the counts of each kind.
-#[derive(Clone, Copy)]
+#[derive(Clone, Copy, Debug, PartialEq, Eq)]
 pub struct Operated {
     pub at: usize,
     pub count: usize,
@@ -112,7 +112,7 @@ pub struct Operated {
 }
 
 // One above the greatest value of each class so far, and the counts of each kind of operation.
-#[derive(Clone, Copy)]
+#[derive(Clone, Copy, Debug, PartialEq, Eq)]
 pub struct State {
     pub input: usize,
     pub output: usize,
@@ -130,7 +130,7 @@ pub enum Listed {
 }
 
 // A section: and the state after it.
-#[derive(Clone, Copy)]
+#[derive(Clone, Copy, Debug, PartialEq, Eq)]
 pub struct Sectioned {
     pub at: usize,
     pub count: usize,

@@ -13,8 +13,9 @@ use base::{Fault, Refusal};
 use scanner::WordAt;
 use symbols::{OPERATORS, PAIR, PAIR_OPERAND, PAIR_RULE, PAIR_SECTION, PAIRS, ROW, RULE, VALUE};
 
-// An entry of a section: input token, level, side, output token.
-#[derive(Clone, Copy)]
+// An entry of a section: input token, level, side, output token. The side is a truth value here, in `Rank` and in what levels makes of it, as in the
+// definitions of a text and of a program (syntax and program: `Operator.right`), which all of it is compared with.
+#[derive(Clone, Copy, Debug, PartialEq, Eq)]
 pub struct Entry {
     pub token: WordAt,
     pub level: usize,
