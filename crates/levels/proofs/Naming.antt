@@ -5,12 +5,13 @@ use mathlib.Core.Option.{Option, none, some}
 use mathlib.Core.Path.{◌≡◌, refl, sym, ap, ◌∙◌}
 use Prim.Native.Nat.{ℕ, ◌+◌, ◌-◌, ◌<◌, ◌≤◌}
 use native.Mathlib.Omega.{arith}
-use borrow.Author.Tests.{eq-eqb, ne_eqb, eqb-true}
+use borrow.Author.Tests.{eq-eqb, eqb-true}
 use lib.Dec.{eqb}
 use lib.ListN.{length}
 use Rattle.base.proofs.Laws.{same-eq, same_refl}
 use Rattle.base.specs.Bools.{never, and}
-use Rattle.std.specs.Prelude.{Some, None, if◌then◌else◌}
+use Rattle.std.specs.Option.{option_eq}
+use Rattle.std.specs.Prelude.{Option as Answer, Some, None, if◌then◌else◌}
 use Rattle.base.specs.Common.{same}
 use Rattle.declarations.specs.Decls.{Decl}
 use Rattle.levels.specs.Naming.{is_of, first_use, behind_first, AllFirst, Names, WordOf, Found, FirstDone}
@@ -35,25 +36,26 @@ use Rattle.words.specs.Words.{Word, words_at}
 pub word-no : {text rows : List ℕ} {n : ℕ} {w : WordAt} {s o : ℕ} → (w.kind ≡ 94 → ⊥) → WordOf text rows n w s o false
 word-no k = record { other = λ _. refl; caret = λ e. absurd (k e) }
 
-pub word-is : {text rows : List ℕ} {n : ℕ} (w : WordAt) {s o : ℕ} {u : Used} → w.kind ≡ 94 → UseRead text rows n w.next (Some u) → WordOf text rows n w s o (eqb u.section s && eqb u.operand o)
+word-is : {text rows : List ℕ} {n : ℕ} (w : WordAt) {s o : ℕ} {u : Used} → w.kind ≡ 94 → UseRead text rows n w.next (Some u) → WordOf text rows n w s o (eqb u.section s && eqb u.operand o)
 unfolding is_of
 word-is {text} w {s} {o} k d = record {
   other = λ f. absurd (f k);
   caret = λ _ nm or. let f = found-is (d.finds (as_word text w) nm or) in rw (f.0, f.1) refl;
 }
 
--- the test of the section, and then of the operand
-pub word-met : {text rows : List ℕ} {n : ℕ} {w : WordAt} {s o x : ℕ} {b : Bool} → x ≡ s → WordOf text rows n w s o (eqb x s && b) → WordOf text rows n w s o b
-word-met {s = s} {x = x} e d = rw (eq-eqb x s e) at d
-
-pub word-missed : {text rows : List ℕ} {n : ℕ} {w : WordAt} {s o x : ℕ} (b : Bool) → (x ≡ s → ⊥) → WordOf text rows n w s o (eqb x s && b) → WordOf text rows n w s o (eqb x s)
-word-missed {s = s} {x = x} b e d = rw (ne_eqb x s e) (rw (ne_eqb x s e) at d)
-
-pub word-none : {text rows : List ℕ} {n : ℕ} (w : WordAt) {s o : ℕ} → w.kind ≡ 94 → UseRead text rows n w.next None → WordOf text rows n w s o false
+word-none : {text rows : List ℕ} {n : ℕ} (w : WordAt) {s o : ℕ} → w.kind ≡ 94 → UseRead text rows n w.next None → WordOf text rows n w s o false
 word-none {text} w k d = record {
   other = λ _. refl;
   caret = λ _ nm or. absurd (never-none (d.finds (as_word text w) nm or).there);
 }
+
+-- the test of what was read
+pub word-tested : {text rows : List ℕ} {n : ℕ} {w : WordAt} {s o : ℕ} {b : Bool} (q : Used → Used → Bool) {u : Answer Used} → w.kind ≡ 94 → UseRead text rows n w.next u
+    → b ≡ option_eq q u (Some (record { section = s; operand = o })) → ((v : Used) → q v (record { section = s; operand = o }) ≡ (eqb v.section s && eqb v.operand o)) → WordOf text rows n w s o b
+word-tested {text} {rows} {n} {w} {s} {o} {b} q {u} k d e f = rw e (go u d) where
+  go : (u : Answer Used) → UseRead text rows n w.next u → WordOf text rows n w s o (option_eq q u (Some (record { section = s; operand = o })))
+  go None d = word-none w k d
+  go (Some v) d = rw (f v) (word-is w k d)
 
 pub name-is : (text : List ℕ) (w : WordAt) {s c o : WordAt} {k : ℕ} → w.next ≤ length text → Next text w.next s → Next text s.next c → Next text c.next o → k ≡ o.start + o.len - w.start
     → (use_of (as_word text w) (words_at text w.next)).operand.kind ≡ 257 → Names (use_of (as_word text w) (words_at text w.next)) (record { start = w.start; len = k })

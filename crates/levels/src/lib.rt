@@ -13,7 +13,7 @@ ghost use Rattle.symbols.specs.Index.{Kept};
 ghost use Rattle.symbols.specs.Rows.{held, word_of};
 ghost use Rattle.words.specs.Words.{words_at};
 
-use maker::{Entry, Rank};
+use maker::{Entry, Rank, Used};
 use scanner::WordAt;
 use symbols::{INPUT, OUTPUT, PAIR, PAIR_OPERAND, PAIR_RULE, PAIR_SECTION, PAIRS, ROW, VALUE};
 
@@ -313,13 +313,8 @@ fn is_use_of(text: &[u8], rows: &[u16], n: usize, w: WordAt, section: usize, ope
     requires { Kept text.now rows.now n }
     ensures { WordOf text.now rows.now n w section operand result }
 {
-    if w.kind != words::CARET {
-        return false;
-    }
-    match maker::read_use(text, rows, n, w.next) {
-        Some(u) => u.section == section && u.operand == operand,
-        None => false,
-    }
+    w.kind == words::CARET
+        && maker::read_use(text, rows, n, w.next) == Some(Used { section, operand })
 }
 
 // What stands from the `^` w to the end of the operand rule's name.

@@ -1,15 +1,11 @@
 -- `levels::is_use_of` meets its contract.
-use Rattle.levels.proofs.Naming.{word-no, word-none, word-is, word-met, word-missed}
+use mathlib.Core.Path.{refl}
+use borrow.Author.Tests.{ne_eqb}
+use Rattle.levels.proofs.Naming.{word-no, word-tested}
 use Rattle.levels.proofs.is_use_of.Goals as goal
 
-pub returns-then-w-ne-CARET : goal.returns-then-w-ne-CARET
-returns-then-w-ne-CARET c = word-no c.if-w-ne-CARET.true
+pub returns-then-w-eq-CARET : goal.returns-then-w-eq-CARET
+returns-then-w-eq-CARET c = word-tested _ c.if-w-eq-CARET.true c.read_use.ensures c.eq.ensures (λ v. refl)
 
-pub returns-then-u-section : goal.returns-then-u-section
-returns-then-u-section c = word-met c.if-u-section.true (word-is _ c.if-w-ne-CARET.false (rw c.in-Some.is at c.read_use.ensures))
-
-pub returns-else-u-section : goal.returns-else-u-section
-returns-else-u-section c = word-missed _ c.if-u-section.false (word-is _ c.if-w-ne-CARET.false (rw c.in-Some.is at c.read_use.ensures))
-
-pub returns-in-None : goal.returns-in-None
-returns-in-None c = word-none _ c.if-w-ne-CARET.false (rw c.in-None.is at c.read_use.ensures)
+pub returns-else-w-eq-CARET : goal.returns-else-w-eq-CARET
+returns-else-w-eq-CARET c = rw (ne_eqb _ _ c.if-w-eq-CARET.false) (word-no c.if-w-eq-CARET.false)
