@@ -1,9 +1,8 @@
 -- `symbols::find_row` meets its contract.
 use mathlib.Core.Path.{refl, ap, sym, ◌∙◌}
 use Prim.Native.Nat.{ℕ}
-use native.Mathlib.Omega.{arith}
 use Rattle.symbols.specs.Index.{bucket_of, head_at, key_of, node_of}
-use Rattle.symbols.proofs.Along.{along-start, along-end, along-past, along-hit, along-miss, nodes-fewer, node-low, named-among}
+use Rattle.symbols.proofs.Along.{along-start, along-end, along-past, along-hit, along-miss, node-low, named-among}
 use Rattle.symbols.proofs.Parts.{bucket-low}
 use Rattle.symbols.proofs.Searches.{by_name, answers-there, answers-nowhere}
 use Rattle.symbols.proofs.find_row.Goals as goal
@@ -19,17 +18,8 @@ loop-node-init c = (
 pub returns-then-n-i : goal.returns-then-n-i
 returns-then-n-i c = record { same = rw c.part-word.ensures at (answers-nowhere _ (along-past (by_name c.args.class c.part-word.result.now) c.args.text.now c.args.rows.now c.args.n (ap node_of c.in-Some.is) c.if-n-i.true c.loop-node.invariant.1)); below = tt }
 
-pub named-requires : goal.named-requires
-named-requires c = omega (arith, c.if-n-i.false, c.requires.few)
-
 pub returns-then-named : goal.returns-then-named
 returns-then-named c = record { same = rw c.part-word.ensures at (answers-there _ _ _ (along-hit (by_name c.args.class c.part-word.result.now) c.args.text.now c.args.rows.now c.args.n (ap node_of c.in-Some.is) c.if-n-i.false (sym c.named.ensures ∙ c.if-named.true) c.loop-node.invariant.1) refl); below = c.if-n-i.false }
-
-pub next_node-node-requires : goal.next_node-node-requires
-next_node-node-requires c = rw c.in-Some.is at c.loop-node.invariant.0
-
-pub loop-node-smaller : goal.loop-node-smaller
-loop-node-smaller c = nodes-fewer c.next_node-node.result c.in-Some.is c.loop-node.invariant.0 c.next_node-node.ensures.up
 
 pub loop-node-preserved : goal.loop-node-preserved
 loop-node-preserved c = (node-low c.in-Some.k c.next_node-node.result c.next_node-node.ensures.up, along-miss (by_name c.args.class c.part-word.result.now) c.args.text.now c.args.rows.now c.args.n (ap node_of c.in-Some.is) (sym c.named.ensures ∙ c.if-named.false) c.next_node-node.ensures.same c.loop-node.invariant.1)

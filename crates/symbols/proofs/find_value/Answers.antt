@@ -1,10 +1,9 @@
 -- `symbols::find_value` meets its contract.
 use mathlib.Core.Path.{ap, sym, ◌∙◌}
 use Prim.Native.Nat.{ℕ}
-use native.Mathlib.Omega.{arith}
 use Rattle.symbols.specs.Rows.{decl_at}
 use Rattle.symbols.specs.Index.{bucket_of, head_at, key_of, node_of}
-use Rattle.symbols.proofs.Along.{along-start, along-end, along-past, along-hit, along-miss, nodes-fewer, node-low, known_among}
+use Rattle.symbols.proofs.Along.{along-start, along-end, along-past, along-hit, along-miss, node-low, known_among}
 use Rattle.symbols.proofs.Parts.{bucket-low}
 use Rattle.symbols.proofs.Searches.{by_value, answers-there, answers-nowhere}
 use Rattle.symbols.proofs.find_value.Goals as goal
@@ -20,24 +19,9 @@ loop-node-init c = (
 pub returns-then-n-i : goal.returns-then-n-i
 returns-then-n-i c = record { same = rw c.part-word.ensures at (answers-nowhere _ (along-past (by_value c.args.class c.part-word.result.now) c.args.text.now c.args.rows.now c.args.n (ap node_of c.in-Some.is) c.if-n-i.true c.loop-node.invariant.1)); low = tt }
 
-pub knows-requires : goal.knows-requires
-knows-requires c = omega (arith, c.if-n-i.false, c.requires.few)
-
-pub overflow_mul-i : goal.overflow_mul-i
-overflow_mul-i c = omega (arith, c.if-n-i.false, c.requires.few)
-
-pub overflow_add-i : goal.overflow_add-i
-overflow_add-i c = omega (arith, c.if-n-i.false, c.requires.few)
-
 pub returns-then-knows : goal.returns-then-knows
 unfolding decl_at
 returns-then-knows c = record { same = rw c.part-word.ensures at (answers-there _ _ _ (along-hit (by_value c.args.class c.part-word.result.now) c.args.text.now c.args.rows.now c.args.n (ap node_of c.in-Some.is) c.if-n-i.false (sym c.knows.ensures ∙ c.if-knows.true) c.loop-node.invariant.1) c.number-then-knows.ensures.0); low = c.number-then-knows.ensures.1 }
-
-pub next_node-node-requires : goal.next_node-node-requires
-next_node-node-requires c = rw c.in-Some.is at c.loop-node.invariant.0
-
-pub loop-node-smaller : goal.loop-node-smaller
-loop-node-smaller c = nodes-fewer c.next_node-node.result c.in-Some.is c.loop-node.invariant.0 c.next_node-node.ensures.up
 
 pub loop-node-preserved : goal.loop-node-preserved
 loop-node-preserved c = (node-low c.in-Some.k c.next_node-node.result c.next_node-node.ensures.up, along-miss (by_value c.args.class c.part-word.result.now) c.args.text.now c.args.rows.now c.args.n (ap node_of c.in-Some.is) (sym c.knows.ensures ∙ c.if-knows.false) c.next_node-node.ensures.same c.loop-node.invariant.1)

@@ -2,11 +2,7 @@
 use mathlib.Core.Path.{sym, ◌∙◌}
 use Rattle.symbols.specs.Rows.{held, word_of}
 use Rattle.symbols.proofs.Lookups.{type-there, type-later, type-not}
-use Rattle.symbols.proofs.Indexing.{kept_less}
 use Rattle.symbols.proofs.type_of.Goals as goal
-
-pub find_row-requires : goal.find_row-requires
-find_row-requires c = kept_less c.requires.1 c.requires.0
 
 pub returns-in-Some-clause-looks : goal.returns-in-Some-clause-looks
 returns-in-Some-clause-looks c = λ kind. type-there (held c.args.text.now c.args.rows.now c.args.n) (word_of c.args.text.now kind c.args.start c.args.len) (held c.args.text.now c.args.rows.now c.args.before) c.in-Some.i c.in-Some.ensures.same
