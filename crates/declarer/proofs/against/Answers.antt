@@ -1,11 +1,8 @@
 -- `declarer::against` meets its contract.
 use native.Mathlib.Omega.{arith}
 use Rattle.symbols.specs.Rows.{held}
-use Rattle.declarer.proofs.OperatorLaws.{left-start, left-stops, left-goes, left-ends}
+use Rattle.declarer.proofs.OperatorLaws.{left-stops, left-goes, left-ends}
 use Rattle.declarer.proofs.against.Goals as goal
-
-pub loop-init : goal.loop-init
-loop-init c = (c.requires.1, c.find_value-v.ensures.same, λ es ws' d h from o ws₁ is. left-start d h)
 
 pub returns-then-against_one : goal.returns-then-against_one
 returns-then-against_one c es ws' d h from o ws₁ is =

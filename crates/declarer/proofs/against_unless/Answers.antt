@@ -1,9 +1,5 @@
 -- `declarer::against_unless` meets its contract.
-use mathlib.Core.Path.{sym}
 use Rattle.declarer.proofs.against_unless.Goals as goal
 
 pub returns-then-not-apart : goal.returns-then-not-apart
 returns-then-not-apart c es ws' d h from o ws₁ is hap = c.against.ensures es ws' d h from o ws₁ is
-
-pub returns-else-not-apart : goal.returns-else-not-apart
-returns-else-not-apart c es ws' d h from o ws₁ is hap = rw c.if-not-apart.false (sym (hap c.if-not-apart.false))

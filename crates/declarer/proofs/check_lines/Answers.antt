@@ -7,9 +7,6 @@ use Rattle.symbols.proofs.Numbered.{fault-some}
 use Rattle.declarer.proofs.FaultLaws.{moved, lines-go, lines-stop, lines_end}
 use Rattle.declarer.proofs.check_lines.Goals as goal
 
-pub loop-i-init : goal.loop-i-init
-loop-i-init c = refl
-
 pub returns-in_err-line_fault : goal.returns-in_err-line_fault
 returns-in_err-line_fault c = let p = err_from_is_err_and c.from_residual.result c.from_residual.ensures.1 in rw (p.1, p.2) (moved c.loop-i.invariant (lines-stop c.args.text.now c.args.rows.now (held c.args.text.now c.args.rows.now c.args.n) c.args.to c.loop-i.i c.loop-i-test.true c.in_err-line_fault.ensures (fault-some _)))
 

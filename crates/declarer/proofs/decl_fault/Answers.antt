@@ -1,14 +1,10 @@
 -- `declarer::decl_fault` meets its contract.
-use Rattle.symbols.proofs.Indexing.{kept_less}
 use mathlib.Core.Path.{sym, ◌∙◌}
 use native.Mathlib.Omega.{arith}
 use Rattle.symbols.specs.Rows.{held, decl_at}
 use Rattle.symbols.proofs.Searches.{class-at}
 use Rattle.declarer.proofs.FaultLaws.{moved, of-type, of-operation, of-rule, of-operators, of_entry}
 use Rattle.declarer.proofs.decl_fault.Goals as goal
-
-pub name_taken-requires : goal.name_taken-requires
-name_taken-requires c = kept_less (omega arith) c.requires.0
 
 pub returns-in-5 : goal.returns-in-5
 returns-in-5 c es ws' d = moved (of-type (held c.args.text.now c.args.rows.now c.args.n) (held c.args.text.now c.args.rows.now c.args.i) (decl_at c.args.text.now c.args.rows.now c.args.i) es (class-at c.args.text.now c.args.rows.now c.args.i ∙ sym c.number.ensures.0 ∙ c.in-5.is)) (rw c.name_taken.ensures at c.fault_if.ensures)
@@ -23,9 +19,6 @@ pub returns-in-600 : goal.returns-in-600
 returns-in-600 c es ws' d =
     let k = (class-at c.args.text.now c.args.rows.now c.args.i ∙ sym c.number.ensures.0 ∙ c.in-600.is) in
     moved (of-operators (held c.args.text.now c.args.rows.now c.args.n) (held c.args.text.now c.args.rows.now c.args.i) (decl_at c.args.text.now c.args.rows.now c.args.i) es k) (c.operators_fault.ensures es ws' (d k))
-
-pub entry_again-requires : goal.entry_again-requires
-entry_again-requires c = kept_less (omega arith) c.requires.0
 
 pub returns-in_default : goal.returns-in_default
 returns-in_default c es ws' d =

@@ -11,9 +11,6 @@ use Rattle.declarer.proofs.entries_fault.Goals as goal
 pub loop-next-init : goal.loop-next-init
 loop-next-init c = (omega arith, c.requires.1, (λ es ws' d. passed_start d), (λ es ws' d. marked-none es), refl)
 
-pub is_apart-apart-requires : goal.is_apart-apart-requires
-is_apart-apart-requires c = c.requires.0.few
-
 pub returns-in_err-entry_fault : goal.returns-in_err-entry_fault
 returns-in_err-entry_fault c es ws' d =
     let p = err_from_is_err_and c.from_residual.result c.from_residual.ensures.1 in
@@ -24,15 +21,6 @@ returns-then-w-eq-SEMICOLON c es ws' d = elim c.then-w-eq-SEMICOLON.branch [
   | then-w-eq-SEMICOLON-via-then-w-eq-SEMICOLON w ↦ passed-ends (c.loop-next.invariant.2 es ws' d) c.read_entry-e.ensures (λ l from o ws₁ is. c.in_ok-entry_fault.ensures es ws' d l from o ws₁ is (apart-entry _ is c.find_value-v.ensures.same (c.loop-next.invariant.3 es ws' d) c.is_apart-apart.ensures)) refl c.next_word-w.ensures w.if-w-eq-SEMICOLON.true
   | then-w-eq-SEMICOLON-via-else-w-eq-SEMICOLON+then-next-i w ↦ absurd (omega (arith, passed-moves (c.loop-next.invariant.2 es ws' d) c.read_entry-e.ensures, w.if-next-i.true))
 ]
-
-pub mark-requires : goal.mark-requires
-mark-requires c = (c.requires.0.few, c.loop-next.invariant.4)
-
-pub overflow_add-count : goal.overflow_add-count
-overflow_add-count c = omega (arith, c.loop-next.invariant.0, c.loop-next.invariant.1)
-
-pub loop-next-smaller : goal.loop-next-smaller
-loop-next-smaller c = omega (arith, c.if-next-i.false, c.read_entry-e.ensures.high)
 
 pub loop-next-preserved : goal.loop-next-preserved
 loop-next-preserved c = (

@@ -1,5 +1,4 @@
 -- `declarer::operation_fault` meets its contract.
-use Rattle.symbols.proofs.Indexing.{kept_less}
 use mathlib.Core.Path.{refl}
 use Rattle.std.proofs.lemmas.Result.{err_from_is_err_and}
 use Rattle.symbols.proofs.Numbered.{fault-some}
@@ -8,9 +7,6 @@ use Rattle.declarer.proofs.FaultLaws.{operation-go, operation-stop}
 use Rattle.declarer.proofs.operation_fault.Goals as goal
 
 -- `declarer::operation_fault` meets its contract.
-pub operation_again-requires : goal.operation_again-requires
-operation_again-requires c = kept_less c.requires.1 c.requires.0
-
 pub returns-in_err-fault_if : goal.returns-in_err-fault_if
 returns-in_err-fault_if c = let p = err_from_is_err_and c.from_residual.result c.from_residual.ensures.1 in rw (p.1, p.2) (operation-stop (held c.args.text.now c.args.rows.now c.args.n) (held c.args.text.now c.args.rows.now c.args.i) (decl_at c.args.text.now c.args.rows.now c.args.i) (rw c.operation_again.ensures at c.in_err-fault_if.ensures) (fault-some _))
 

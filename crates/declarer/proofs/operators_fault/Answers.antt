@@ -1,6 +1,4 @@
 -- `declarer::operators_fault` meets its contract.
-use Rattle.symbols.proofs.Indexing.{kept_less}
-use native.Mathlib.Omega.{arith}
 use mathlib.Core.Path.{refl}
 use Rattle.std.proofs.lemmas.Result.{err_from_is_err_and}
 use Rattle.symbols.proofs.Numbered.{fault-some}
@@ -10,9 +8,6 @@ use Rattle.declarer.proofs.OperatorLaws.{operators-stop, operators-go}
 use Rattle.declarer.proofs.operators_fault.Goals as goal
 
 -- `declarer::operators_fault` meets its contract.
-pub name_taken-requires : goal.name_taken-requires
-name_taken-requires c = kept_less (omega arith) c.requires.0
-
 pub returns-in_err-fault_if : goal.returns-in_err-fault_if
 returns-in_err-fault_if c es ws' d = let p = err_from_is_err_and c.from_residual.result c.from_residual.ensures.1 in rw (p.1, p.2) (operators-stop (held c.args.text.now c.args.rows.now c.args.n) (held c.args.text.now c.args.rows.now c.args.i) (decl_at c.args.text.now c.args.rows.now c.args.i) es (rw c.name_taken.ensures at c.in_err-fault_if.ensures) (fault-some _))
 
