@@ -1,11 +1,7 @@
 -- `levels::first_use` meets its contract.
-use native.Mathlib.Omega.{arith}
 use Rattle.levels.proofs.Naming.{first-end, first-last, first-hit, first_next}
 use Rattle.levels.proofs.first_use.Goals.{then-w-lt-FIRST_WORD-via-then-w-lt-FIRST_WORD, then-w-lt-FIRST_WORD-via-else-w-lt-FIRST_WORD+then-w-eq-END}
 use Rattle.levels.proofs.first_use.Goals as goal
-
-pub loop-w-init : goal.loop-w-init
-loop-w-init c = (c.requires.0, λ r d. d)
 
 pub returns-then-w-lt-FIRST_WORD : goal.returns-then-w-lt-FIRST_WORD
 returns-then-w-lt-FIRST_WORD c = c.loop-w.invariant.1 _ (elim c.then-w-lt-FIRST_WORD.branch [
@@ -13,17 +9,8 @@ returns-then-w-lt-FIRST_WORD c = c.loop-w.invariant.1 _ (elim c.then-w-lt-FIRST_
   | then-w-lt-FIRST_WORD-via-else-w-lt-FIRST_WORD+then-w-eq-END w ↦ first-last c.next_word-w.ensures w.if-w-eq-END.true c.loop-w.invariant.0 c.not_found.ensures
 ])
 
-pub is_use_of-requires : goal.is_use_of-requires
-is_use_of-requires c = c.requires.1
-
-pub name_of-requires : goal.name_of-requires
-name_of-requires c = c.next_word-w.ensures.high c.loop-w.invariant.0
-
 pub returns-then-is_use_of : goal.returns-then-is_use_of
 returns-then-is_use_of c = c.loop-w.invariant.1 _ (first-hit c.next_word-w.ensures c.is_use_of.ensures c.loop-w.invariant.0 c.if-is_use_of.true c.name_of.ensures)
-
-pub loop-w-smaller : goal.loop-w-smaller
-loop-w-smaller c = omega (arith, c.next_word-w.ensures.moves c.if-w-lt-FIRST_WORD.false, c.next_word-w.ensures.high c.loop-w.invariant.0)
 
 pub loop-w-preserved : goal.loop-w-preserved
 loop-w-preserved c = (c.next_word-w.ensures.high c.loop-w.invariant.0, λ r d. c.loop-w.invariant.1 r (first_next c.next_word-w.ensures c.is_use_of.ensures c.if-w-lt-FIRST_WORD.false c.if-w-eq-END.false c.if-is_use_of.false d))

@@ -1,11 +1,7 @@
 -- `levels::is_use_of` meets its contract.
 use mathlib.Core.Path.{refl}
-use borrow.Author.Tests.{ne_eqb}
-use Rattle.levels.proofs.Naming.{word-no, word-tested}
+use Rattle.levels.proofs.Naming.{word-tested}
 use Rattle.levels.proofs.is_use_of.Goals as goal
 
 pub returns-then-w-eq-CARET : goal.returns-then-w-eq-CARET
 returns-then-w-eq-CARET c = word-tested _ c.if-w-eq-CARET.true c.read_use.ensures c.eq.ensures (λ v. refl)
-
-pub returns-else-w-eq-CARET : goal.returns-else-w-eq-CARET
-returns-else-w-eq-CARET c = rw (ne_eqb _ _ c.if-w-eq-CARET.false) (word-no c.if-w-eq-CARET.false)

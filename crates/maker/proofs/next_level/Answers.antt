@@ -10,9 +10,6 @@ pub loop-i-init : goal.loop-i-init
 unfolding no_rank
 loop-i-init c = (c.requires.0, omega arith, tt, λ r d. d)
 
-pub with_entry-best-requires : goal.with_entry-best-requires
-with_entry-best-requires c = omega (arith, c.loop-i.invariant.0, c.loop-i.invariant.1, c.requires.1)
-
 pub returns-then-w-eq-SEMICOLON-clause-bound : goal.returns-then-w-eq-SEMICOLON-clause-bound
 returns-then-w-eq-SEMICOLON-clause-bound c = bound-next _ _ _ _ c.with_entry-best.ensures c.loop-i.invariant.2
 
@@ -21,9 +18,6 @@ returns-then-w-eq-SEMICOLON-clause-done c = c.loop-i.invariant.3 _ (elim c.then-
   | then-w-eq-SEMICOLON-via-then-w-eq-SEMICOLON w ↦ rank-last _ _ c.read_entry-e.ensures (rank-step _ _ _ _ c.with_entry-best.ensures) c.next_word-w.ensures w.if-w-eq-SEMICOLON.true
   | then-w-eq-SEMICOLON-via-else-w-eq-SEMICOLON+then-next-i w ↦ rank-stuck _ _ c.read_entry-e.ensures (rank-step _ _ _ _ c.with_entry-best.ensures) w.if-next-i.true
 ])
-
-pub loop-i-smaller : goal.loop-i-smaller
-loop-i-smaller c = omega (arith, c.if-next-i.false, c.read_entry-e.ensures.high)
 
 pub loop-i-preserved : goal.loop-i-preserved
 loop-i-preserved c = (

@@ -13,12 +13,6 @@ use Rattle.maker.proofs.section_levels.Goals as goal
 pub loop-next-init : goal.loop-next-init
 loop-next-init c = ((rank-above 0 _ (omega arith) c.next_level-next.ensures.bound).0, c.next_level-next.ensures.bound, levels-first c.next_level-next.ensures.done)
 
-pub overflow_add-levels : goal.overflow_add-levels
-overflow_add-levels c = omega (arith, c.loop-next.invariant.0, (rank-above 0 _ (omega arith) c.loop-next.invariant.1).1)
-
-pub next_level-next-requires-in-Some : goal.next_level-next-requires-in-Some
-next_level-next-requires-in-Some c = (c.requires.0, c.requires.1, (rw c.in-Some.is at c.loop-next.invariant.1).1)
-
 pub loop-next-smaller : goal.loop-next-smaller
 loop-next-smaller c =
     let here = ap (λ (o : Option Rank). (rank_or o).level) c.in-Some.is in

@@ -15,9 +15,6 @@ returns-then-level-above c = elim c.then-level-above.branch [
   | then-level-above-via-else-level-above+then-level-gt-GREATEST_LEVEL w ↦ next-past c.args.above c.args.level c.args.right c.args.best (omega (arith, w.if-level-above.false)) w.if-level-gt-GREATEST_LEVEL.true
 ]
 
-pub overflow_add-result : goal.overflow_add-result
-overflow_add-result c = let f = rw c.in-Some-2.is at c.requires in omega (arith, f)
-
 pub returns-in-Some : goal.returns-in-Some
 returns-in-Some c = rw c.in-Some.is (next-high c.args.above c.args.level c.args.right (omega (arith, c.if-level-above.false)) (omega (arith, c.if-level-gt-GREATEST_LEVEL.false)) c.in-Some.rank c.if-rank-level.true)
 
