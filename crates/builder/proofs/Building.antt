@@ -19,8 +19,7 @@ use Rattle.names.specs.Known.{good, KnownRule, Names}
 use Rattle.names.specs.Resolve.{within, plain_of, act_of, acts_of, other_of}
 use Rattle.places.proofs.Heres.{kind-here, took-kind, took-here, reference-kind}
 use Rattle.program.specs.Past.{past, past_all, past_other, exits, exits_all, exits_other}
-use Rattle.resolver.specs.Resolved.{Appends, Ends, ended, Flags, PlainDone}
-use Rattle.resolver.specs.declared.Built.{Built}
+use Rattle.resolver.specs.Resolved.{BuiltTold, Appends, Ends, ended, Flags, PlainDone}
 use Rattle.scanner.specs.Next.{Next}
 use Rattle.scanner.specs.declared.WordAt.{WordAt}
 use Rattle.symbols.specs.Rows.{held}
@@ -34,7 +33,7 @@ apart b p q = let z : ◌≡◌ {A = Bool} true false = sym p ∙ q in let y : �
 
 -- Actions in a row
 
-pub acts-stop : {text rows : List ℕ} {n at : ℕ} {inside : Bool} {class : ℕ} {before some : Bool} {cs : List ℕ} {c : ℕ} {cs' : List ℕ} {r : Built} {w : WordAt}
+pub acts-stop : {text rows : List ℕ} {n at : ℕ} {inside : Bool} {class : ℕ} {before some : Bool} {cs : List ℕ} {c : ℕ} {cs' : List ℕ} {r : BuiltTold} {w : WordAt}
     → at ≤ length text → Next text at w → closes w.kind ≡ true → Appends cs c (0 ∷ []) cs' r.done.count → r.done.fault ≡ 0 → r.done.at ≡ at → r.past ≡ before → r.exits ≡ some
     → ActsDone text rows n at inside class before some cs c cs' r
 unfolding acts_of acts_cells past_all exits_all
@@ -47,7 +46,7 @@ acts-stop {text} {rows} {n} {at} {inside} {class} {before} {some} {cs} {c} {cs'}
     go p names rs g done ws (none_in _ e) = ended f (e ∙ ap (words_at text) (sym a)) (λ _. app) (e₁ ∙ sym (and-true before), e₂ ∙ sym (or-false some))
     go p names rs g (x ▸ q) ws (more_in o _ _) = absurd (apart (closes w.kind) k (ap closes (sym (kind-here text at w h)) ∙ o))
 
-pub acts-fail : {text rows : List ℕ} {n at : ℕ} {inside : Bool} {class : ℕ} {before some : Bool} {cs : List ℕ} {c : ℕ} {cs₁ : List ℕ} {a : Built} {w : WordAt}
+pub acts-fail : {text rows : List ℕ} {n at : ℕ} {inside : Bool} {class : ℕ} {before some : Bool} {cs : List ℕ} {c : ℕ} {cs₁ : List ℕ} {a : BuiltTold} {w : WordAt}
     → Next text at w → closes w.kind ≡ false → ActDone text rows n at inside class cs c cs₁ a → (a.done.fault ≡ 0 → ⊥)
     → ActsDone text rows n at inside class before some cs c cs₁ a
 unfolding acts_of
@@ -60,7 +59,7 @@ acts-fail {text} {rows} {n} {at} {inside} {class} {before} {some} {cs} {c} {cs�
     go p names rs g done ws (none_in o _) = absurd (apart (closes w.kind) (ap closes (sym (kind-here text at w h)) ∙ o) k)
     go p names rs g (x ▸ q) ws (more_in {ws₁ = ws₁} _ d _) = ends-fails (act_of p names rs x (place_of (held text rows n) inside class)) _ (A.done p names rs g x ws₁ d) z
 
-pub acts-more : {text rows : List ℕ} {n at : ℕ} {inside : Bool} {class : ℕ} {before some before' some' : Bool} {cs : List ℕ} {c : ℕ} {cs₁ cs' : List ℕ} {a r : Built} {w : WordAt}
+pub acts-more : {text rows : List ℕ} {n at : ℕ} {inside : Bool} {class : ℕ} {before some before' some' : Bool} {cs : List ℕ} {c : ℕ} {cs₁ cs' : List ℕ} {a r : BuiltTold} {w : WordAt}
     → Next text at w → closes w.kind ≡ false → ActDone text rows n at inside class cs c cs₁ a → a.done.fault ≡ 0
     → before' ≡ (before && a.past) → some' ≡ (some || a.exits)
     → ActsDone text rows n a.done.at inside class before' some' cs₁ a.done.count cs' r → ActsDone text rows n at inside class before some cs c cs' r
@@ -102,7 +101,7 @@ plain-begins {text} {at} {w} {ws} a h (call_in {at = v} {ws₁ = ws₁} t _) = l
 plain-begins {text} {at} {w} {ws} a h (give_in {w = v} {ws₁ = ws₁} t _) = let e = took-kind text at 256 w v ws₁ h t in (λ q. omega (arith, e), λ q. omega (arith, e))
 plain-begins {text} {at} {w} {ws} a h (ranked_in {s = v} {ws₁ = ws₁} t _ _ _) = let e = took-kind text at 94 w v ws₁ h t in (λ q. omega (arith, e), λ q. omega (arith, e))
 
-pub act-cycle : {text rows : List ℕ} {n at : ℕ} {inside : Bool} {class : ℕ} {cs : List ℕ} {c : ℕ} {cs' : List ℕ} {r : Built} {w : WordAt}
+pub act-cycle : {text rows : List ℕ} {n at : ℕ} {inside : Bool} {class : ℕ} {cs : List ℕ} {c : ℕ} {cs' : List ℕ} {r : BuiltTold} {w : WordAt}
     → Next text at w → w.kind ≡ 123 → CycleDone text rows n w.next class cs c cs' r → ActDone text rows n at inside class cs c cs' r
 act-cycle {text} {rows} {n} {at} {inside} {class} {cs} {c} {cs'} {r} {w} h k C =
     record { kept = record { same = C.kept.same; low = λ e. omega (arith, C.kept.low e, h.moves (omega (arith, k))); high = C.kept.high }; done = go }
@@ -115,7 +114,7 @@ act-cycle {text} {rows} {n} {at} {inside} {class} {cs} {c} {cs'} {r} {w} h k C =
         C.done p names rs g b e ws₂ ws (subst (λ l. ActsIn l ws₂ b) (took-here text at 123 w o ws₁ (omega arith) h t).behind d) u inside
     go p names rs g (choice s q o) ws (choice_in {ws₁ = ws₁} {opening = v} t _ _ _) = absurd (omega (arith, k, took-kind text at 91 w v ws₁ h t))
 
-pub act-choice : {text rows : List ℕ} {n at : ℕ} {inside : Bool} {class : ℕ} {cs : List ℕ} {c : ℕ} {cs' : List ℕ} {r : Built} {w : WordAt}
+pub act-choice : {text rows : List ℕ} {n at : ℕ} {inside : Bool} {class : ℕ} {cs : List ℕ} {c : ℕ} {cs' : List ℕ} {r : BuiltTold} {w : WordAt}
     → Next text at w → w.kind ≡ 91 → ChoiceDone text rows n w.next inside class cs c cs' r → ActDone text rows n at inside class cs c cs' r
 act-choice {text} {rows} {n} {at} {inside} {class} {cs} {c} {cs'} {r} {w} h k C =
     record { kept = record { same = C.kept.same; low = λ e. omega (arith, C.kept.low e, h.moves (omega (arith, k))); high = C.kept.high }; done = go }
@@ -128,7 +127,7 @@ act-choice {text} {rows} {n} {at} {inside} {class} {cs} {c} {cs'} {r} {w} h k C 
     go p names rs g (choice s q o) ws (choice_in {ws₁ = ws₁} {ws₂ = ws₂} {ws₃ = ws₃} {opening = v} {bar = b} t d u e) =
         C.done p names rs g s q o b ws₂ ws₃ ws (subst (λ l. SelectorIn l ws₂ s) (took-here text at 91 w v ws₁ (omega arith) h t).behind d) u e
 
-pub act-plain : {text rows : List ℕ} {n at : ℕ} {inside : Bool} {class : ℕ} {cs : List ℕ} {c : ℕ} {cs' : List ℕ} {r : Built} {w : WordAt}
+pub act-plain : {text rows : List ℕ} {n at : ℕ} {inside : Bool} {class : ℕ} {cs : List ℕ} {c : ℕ} {cs' : List ℕ} {r : BuiltTold} {w : WordAt}
     → Next text at w → (w.kind ≡ 123 → ⊥) → (w.kind ≡ 91 → ⊥) → PlainDone text rows n at inside class cs c cs' r → ActDone text rows n at inside class cs c cs' r
 unfolding act_of act_cells past exits
 act-plain {text} {rows} {n} {at} {inside} {class} {cs} {c} {cs'} {r} {w} h k₁ k₂ P =
@@ -145,7 +144,7 @@ act-plain {text} {rows} {n} {at} {inside} {class} {cs} {c} {cs'} {r} {w} h k₁ 
 
 -- Cycles
 
-pub cycle-fail : {text rows : List ℕ} {n at class : ℕ} {cs : List ℕ} {c : ℕ} {cs₁ : List ℕ} {c₁ : ℕ} {cs' : List ℕ} {b : Built}
+pub cycle-fail : {text rows : List ℕ} {n at class : ℕ} {cs : List ℕ} {c : ℕ} {cs₁ : List ℕ} {c₁ : ℕ} {cs' : List ℕ} {b : BuiltTold}
     → Appends cs c (2 ∷ []) cs₁ c₁ → ActsDone text rows n at true class true false cs₁ c₁ cs' b → (b.done.fault ≡ 0 → ⊥) → CycleDone text rows n at class cs c cs' b
 unfolding act_of within
 cycle-fail {text} {rows} {n} {at} {class} app B z = record {
@@ -153,7 +152,7 @@ cycle-fail {text} {rows} {n} {at} {class} app B z = record {
   done = λ p names rs g q close ws₁ ws d t inside. ends-fails (acts_of p names rs q (place_of (held text rows n) true class)) (λ x. good (cycle x)) (B.done p names rs g q ws₁ d) z;
 }
 
-pub cycle-end : {text rows : List ℕ} {n at class : ℕ} {cs : List ℕ} {c : ℕ} {cs₁ : List ℕ} {c₁ : ℕ} {cs' : List ℕ} {b r : Built} {w : WordAt}
+pub cycle-end : {text rows : List ℕ} {n at class : ℕ} {cs : List ℕ} {c : ℕ} {cs₁ : List ℕ} {c₁ : ℕ} {cs' : List ℕ} {b r : BuiltTold} {w : WordAt}
     → Appends cs c (2 ∷ []) cs₁ c₁ → ActsDone text rows n at true class true false cs₁ c₁ cs' b → b.done.fault ≡ 0 → Next text b.done.at w
     → r.done.fault ≡ 0 → r.done.at ≡ w.next → r.done.count ≡ b.done.count → r.past ≡ b.exits → r.exits ≡ false → CycleDone text rows n at class cs c cs' r
 unfolding act_of within act_cells past exits
@@ -168,7 +167,7 @@ cycle-end {text} {rows} {n} {at} {class} {cs} {c} {cs₁} {c₁} {cs'} {b} {r} {
 
 -- Otherwise
 
-pub other-fail : {text rows : List ℕ} {n at : ℕ} {inside : Bool} {class : ℕ} {cs : List ℕ} {c : ℕ} {cs₁ : List ℕ} {c₁ : ℕ} {cs' : List ℕ} {b : Built} {w : WordAt}
+pub other-fail : {text rows : List ℕ} {n at : ℕ} {inside : Bool} {class : ℕ} {cs : List ℕ} {c : ℕ} {cs₁ : List ℕ} {c₁ : ℕ} {cs' : List ℕ} {b : BuiltTold} {w : WordAt}
     → Next text at w → Appends cs c (13 ∷ []) cs₁ c₁ → ActsDone text rows n w.next inside class true false cs₁ c₁ cs' b → (b.done.fault ≡ 0 → ⊥)
     → OtherDone text rows n at inside class cs c cs' b
 unfolding other_of
@@ -179,7 +178,7 @@ other-fail {text} {rows} {n} {at} {inside} {class} {cs} {c} {cs₁} {c₁} {cs'}
       (B.done p names rs g q ws₂ (subst (λ l. ActsIn l ws₂ q) (took-here text at 58 w colon ws₁ (omega arith) h t).behind d)) z;
 }
 
-pub other-end : {text rows : List ℕ} {n at : ℕ} {inside : Bool} {class : ℕ} {cs : List ℕ} {c : ℕ} {cs₁ : List ℕ} {c₁ : ℕ} {cs' : List ℕ} {b r : Built} {w v : WordAt}
+pub other-end : {text rows : List ℕ} {n at : ℕ} {inside : Bool} {class : ℕ} {cs : List ℕ} {c : ℕ} {cs₁ : List ℕ} {c₁ : ℕ} {cs' : List ℕ} {b r : BuiltTold} {w v : WordAt}
     → Next text at w → Appends cs c (13 ∷ []) cs₁ c₁ → ActsDone text rows n w.next inside class true false cs₁ c₁ cs' b → b.done.fault ≡ 0 → Next text b.done.at v
     → r.done.fault ≡ 0 → r.done.at ≡ v.next → r.done.count ≡ b.done.count → r.past ≡ b.past → r.exits ≡ b.exits → OtherDone text rows n at inside class cs c cs' r
 unfolding other_of other_cells past_other exits_other

@@ -10,9 +10,8 @@ use Rattle.base.specs.Common.{member}
 use Rattle.base.specs.Tree.{choice, nil, alternative, absent, otherwise}
 use Rattle.resolver.proofs.Appending.{appends-length}
 use Rattle.builder.proofs.Encoding.{choice-cells, alternative-cells}
-use Rattle.builder.proofs.Laws.{ends-fails, ends-here, ends-map, ends-moved, ends-then, member-more}
-use Rattle.builder.specs.Parts.{place_of, labelled_of, choices_of, Choices, choices_cells, Marks, ChoiceDone, AltsDone, OtherDone, LabelledDone}
-use Rattle.builder.specs.declared.Labelled.{Labelled}
+use Rattle.builder.proofs.Laws.{ends-off, ends-fails, ends-here, ends-map, ends-moved, ends-then, member-more}
+use Rattle.builder.specs.Parts.{LabelledTold, place_of, labelled_of, choices_of, Choices, choices_cells, Marks, ChoiceDone, AltsDone, OtherDone, LabelledDone}
 use Rattle.cells.specs.Cells.{selector_cells, act_cells, alts_cells, other_cells}
 use Rattle.declarations.proofs.Declaring.{alike}
 use Rattle.declarations.specs.Decls.{Agrees, knowns_in}
@@ -23,10 +22,7 @@ use Rattle.names.specs.Resolve.{Place, selector_of, labels_of, act_of, acts_of, 
 use Rattle.places.proofs.Heres.{took-kind, took-here, reference-kind}
 use Rattle.program.specs.Past.{past, past_all, past_some, past_other, exits, exits_all, exits_some, exits_other}
 use Rattle.program.specs.Program as means
-use Rattle.resolver.specs.Resolved.{Appends, Ends, Flags, SelectorDone}
-use Rattle.resolver.specs.declared.Built.{Built}
-use Rattle.resolver.specs.declared.Done.{Done}
-use Rattle.resolver.specs.declared.Selected.{Selected}
+use Rattle.resolver.specs.Resolved.{SelectedTold, DoneTold, BuiltTold, Appends, Ends, Flags, SelectorDone}
 use Rattle.scanner.specs.Next.{Next}
 use Rattle.scanner.specs.declared.WordAt.{WordAt}
 use Rattle.symbols.specs.Rows.{held}
@@ -75,19 +71,19 @@ alternative-order p names rs ls b q o at ks seen =
 
 -- The whole choice
 
-pub choice-fail : {text rows : List ℕ} {n at : ℕ} {inside : Bool} {class : ℕ} {cs : List ℕ} {c : ℕ} {cs₁ : List ℕ} {s : Selected} {r : Built}
+pub choice-fail : {text rows : List ℕ} {n at : ℕ} {inside : Bool} {class : ℕ} {cs : List ℕ} {c : ℕ} {cs₁ : List ℕ} {s : SelectedTold} {r : BuiltTold}
     → SelectorDone text rows n at cs c cs₁ s → (s.done.fault ≡ 0 → ⊥) → r.done ≡ s.done → ChoiceDone text rows n at inside class cs c cs₁ r
 unfolding act_of
 choice-fail {text} {rows} {n} {at} {inside} {class} {cs} {c} {cs₁} {s} {r} S z e =
-    let z₂ : r.done.fault ≡ 0 → ⊥ = λ k. z (sym (ap (λ (d : Done). d.fault) e) ∙ k) in
+    let z₂ : r.done.fault ≡ 0 → ⊥ = λ k. z (sym (ap (λ (d : DoneTold). d.fault) e) ∙ k) in
     record {
       kept = record { same = S.same; low = λ k. absurd (z₂ k); high = λ k. absurd (z₂ k) };
       done = λ p names rs g x q o bar ws₁ ws₂ ws d t u.
-          subst (λ (y : Done). Ends (PairsAre text rows n p names) text ws cs c cs₁ (λ b. act_cells b []) (λ b. Flags r.past r.exits (past b) (exits b)) y (act_of p names rs (choice x q o) (place_of (held text rows n) inside class)))
+          subst (λ (y : DoneTold). Ends (PairsAre text rows n p names) text ws cs c cs₁ (λ b. act_cells b []) (λ b. Flags r.past r.exits (past b) (exits b)) y (act_of p names rs (choice x q o) (place_of (held text rows n) inside class)))
           (sym e) (ends-fails (selector_of p names rs x) _ (S.done p names rs g x ws₁ d) z);
     }
 
-pub choice-more : {text rows : List ℕ} {n at : ℕ} {inside : Bool} {class : ℕ} {cs : List ℕ} {c : ℕ} {cs₁ cs' seen : List ℕ} {s : Selected} {r : Built} {w : WordAt}
+pub choice-more : {text rows : List ℕ} {n at : ℕ} {inside : Bool} {class : ℕ} {cs : List ℕ} {c : ℕ} {cs₁ cs' seen : List ℕ} {s : SelectedTold} {r : BuiltTold} {w : WordAt}
     → SelectorDone text rows n at cs c cs₁ s → s.done.fault ≡ 0 → Next text s.done.at w → length seen ≡ 64
     → AltsDone text rows n w.next inside class s.class s.absent seen 0 false false cs₁ s.done.count cs' r → ChoiceDone text rows n at inside class cs c cs' r
 unfolding past exits
@@ -123,15 +119,15 @@ labels-begin {text} {at} {w} h (more_labels {ws₁ = ws₁} {w = v} d _ _) e = g
     go (inl k) = omega (arith, e, k)
     go (inr k) = omega (arith, e, k)
 
-pub alts-other : {text rows : List ℕ} {n at : ℕ} {inside : Bool} {class labels miss : ℕ} {seen : List ℕ} {used : ℕ} {one some : Bool} {cs : List ℕ} {c : ℕ} {cs' : List ℕ} {o r : Built} {w : WordAt}
+pub alts-other : {text rows : List ℕ} {n at : ℕ} {inside : Bool} {class labels miss : ℕ} {seen : List ℕ} {used : ℕ} {one some : Bool} {cs : List ℕ} {c : ℕ} {cs' : List ℕ} {o r : BuiltTold} {w : WordAt}
     → Next text at w → w.kind ≡ 42 → OtherDone text rows n w.next inside class cs c cs' o → r.done ≡ o.done → r.past ≡ (one || o.past) → r.exits ≡ (some || o.exits)
     → AltsDone text rows n at inside class labels miss seen used one some cs c cs' r
 unfolding choices_of alts_of alts_cells past_some exits_some
 alts-other {text} {rows} {n} {at} {inside} {class} {labels} {miss} {seen} {used} {one} {some} {cs} {c} {cs'} {o} {r} {w} h k O e e₁ e₂ = record {
   kept = record {
     same = O.kept.same;
-    low = λ f. omega (arith, ap (λ (d : Done). d.at) e, h.onto, O.kept.low (sym (ap (λ (d : Done). d.fault) e) ∙ f));
-    high = λ f. omega (arith, ap (λ (d : Done). d.at) e, O.kept.high (sym (ap (λ (d : Done). d.fault) e) ∙ f));
+    low = λ f. omega (arith, ap (λ (d : DoneTold). d.at) e, h.onto, O.kept.low (sym (ap (λ (d : DoneTold). d.fault) e) ∙ f));
+    high = λ f. omega (arith, ap (λ (d : DoneTold). d.at) e, O.kept.high (sym (ap (λ (d : DoneTold). d.fault) e) ∙ f));
   };
   done = go;
 }
@@ -142,7 +138,7 @@ alts-other {text} {rows} {n} {at} {inside} {class} {labels} {miss} {seen} {used}
         (Marks r one some) r.done
         (choices_of p names rs q x (place_of (held text rows n) inside class) (knowns_in labels (held text rows n)) old)
     go p names rs g nil (otherwise b) room ws (other_in {ws₁ = ws₁} {ws₂ = ws₂} {ws₃ = ws₃} {star = star} {colon = colon} {close = close} t u d v) _ old _ =
-        subst (λ (y : Done). Ends (PairsAre text rows n p names) text ws cs c cs' (choices_cells miss)
+        subst (λ (y : DoneTold). Ends (PairsAre text rows n p names) text ws cs c cs' (choices_cells miss)
         (Marks r one some) y
         (choices_of p names rs nil (otherwise b) (place_of (held text rows n) inside class) (knowns_in labels (held text rows n)) old)) (sym e)
         (ends-map (choices_cells miss)
@@ -154,7 +150,16 @@ alts-other {text} {rows} {n} {at} {inside} {class} {labels} {miss} {seen} {used}
     go p names rs g (alternative ls b q) x room ws (next_in d _ _ _ _ _) _ old _ = absurd (labels-begin h d k)
     go p names rs g nil absent room ws x8 _ old _ = elim x8 [ ]
 
-pub alts-fail : {text rows : List ℕ} {n at : ℕ} {inside : Bool} {class labels miss : ℕ} {seen : List ℕ} {used : ℕ} {seen' : List ℕ} {one some : Bool} {cs : List ℕ} {c : ℕ} {cs' : List ℕ} {l : Labelled} {w : WordAt}
+pub alts-off : {text rows : List ℕ} {n at : ℕ} {inside : Bool} {class labels miss : ℕ} {seen : List ℕ} {used : ℕ} {one some : Bool} {cs : List ℕ} {c : ℕ} {cs' : List ℕ} {o : BuiltTold} {w : WordAt}
+    → Next text at w → w.kind ≡ 42 → OtherDone text rows n w.next inside class cs c cs' o → (o.done.fault ≡ 0 → ⊥)
+    → AltsDone text rows n at inside class labels miss seen used one some cs c cs' o
+alts-off {one = one} {some = some} {o = o} h k O z = record {
+  kept = record { same = O.kept.same; low = λ e. absurd (z e); high = λ e. absurd (z e) };
+  done = λ p names rs g q x room ws d f old m.
+      ends-off ((alts-other {r = record { done = o.done; past = one || o.past; exits = some || o.exits }} h k O refl refl refl).done p names rs g q x room ws d f old m) z;
+}
+
+pub alts-fail : {text rows : List ℕ} {n at : ℕ} {inside : Bool} {class labels miss : ℕ} {seen : List ℕ} {used : ℕ} {seen' : List ℕ} {one some : Bool} {cs : List ℕ} {c : ℕ} {cs' : List ℕ} {l : LabelledTold} {w : WordAt}
     → Next text at w → (w.kind ≡ 42 → ⊥) → LabelledDone text rows n at inside class labels seen used seen' cs c cs' l → (l.built.done.fault ≡ 0 → ⊥)
     → AltsDone text rows n at inside class labels miss seen used one some cs c cs' l.built
 alts-fail {text} {rows} {n} {at} {inside} {class} {labels} {miss} {seen} {used} {seen'} {one} {some} {cs} {c} {cs'} {l} {w} h k L z =
@@ -176,8 +181,8 @@ alts-fail {text} {rows} {n} {at} {inside} {class} {labels} {miss} {seen} {used} 
         (L.done p names rs g ls b colon ws₁ ws₂ ws₃ d (omega (arith, i, fits)) t e old m) z)
     go p names rs g nil absent room ws x8 fits old m = elim x8 [ ]
 
-pub alts-last : {text rows : List ℕ} {n at : ℕ} {inside : Bool} {class labels miss : ℕ} {seen : List ℕ} {used : ℕ} {seen' : List ℕ} {one some : Bool} {cs : List ℕ} {c : ℕ} {cs₁ cs' : List ℕ} {l : Labelled}
-    {r : Built} {w v : WordAt}
+pub alts-last : {text rows : List ℕ} {n at : ℕ} {inside : Bool} {class labels miss : ℕ} {seen : List ℕ} {used : ℕ} {seen' : List ℕ} {one some : Bool} {cs : List ℕ} {c : ℕ} {cs₁ cs' : List ℕ} {l : LabelledTold}
+    {r : BuiltTold} {w v : WordAt}
     → Next text at w → (w.kind ≡ 42 → ⊥) → LabelledDone text rows n at inside class labels seen used seen' cs c cs₁ l → l.built.done.fault ≡ 0
     → Next text l.built.done.at v → (v.kind ≡ 124 → ⊥) → Appends cs₁ l.built.done.count (miss ∷ []) cs' r.done.count
     → r.done.fault ≡ 0 → r.done.at ≡ v.next → r.past ≡ (one || l.built.past) → r.exits ≡ (some || l.built.exits)
@@ -218,8 +223,8 @@ alts-last {text} {rows} {n} {at} {inside} {class} {labels} {miss} {seen} {used} 
         absurd (k₂ (took-kind text l.built.done.at 124 v bar ws₄ h₂ (subst (λ l. Took 124 l bar ws₄) here u)))
     go p names rs g nil absent room ws x8 fits old m = elim x8 [ ]
 
-pub alts-next : {text rows : List ℕ} {n at : ℕ} {inside : Bool} {class labels miss : ℕ} {seen : List ℕ} {used : ℕ} {seen' : List ℕ} {one some one' some' : Bool} {cs : List ℕ} {c : ℕ} {cs₁ cs' : List ℕ} {l : Labelled}
-    {r : Built} {w v : WordAt}
+pub alts-next : {text rows : List ℕ} {n at : ℕ} {inside : Bool} {class labels miss : ℕ} {seen : List ℕ} {used : ℕ} {seen' : List ℕ} {one some one' some' : Bool} {cs : List ℕ} {c : ℕ} {cs₁ cs' : List ℕ} {l : LabelledTold}
+    {r : BuiltTold} {w v : WordAt}
     → Next text at w → (w.kind ≡ 42 → ⊥) → LabelledDone text rows n at inside class labels seen used seen' cs c cs₁ l → l.built.done.fault ≡ 0
     → Next text l.built.done.at v → v.kind ≡ 124 → one' ≡ (one || l.built.past) → some' ≡ (some || l.built.exits)
     → AltsDone text rows n v.next inside class labels miss seen' l.used one' some' cs₁ l.built.done.count cs' r

@@ -10,8 +10,7 @@ use native.Mathlib.Omega.{arith}
 use borrow.Author.Tests.{eq-eqb, ne_eqb, le-ltb}
 use Rattle.std.specs.Prelude.{if◌then◌else◌, Some, None}
 use Rattle.base.specs.Common.{given}
-use Rattle.builder.specs.Heads.{taken_before, head_of, HeadEnd, headed, misheaded, TypeDone, HeadDone}
-use Rattle.builder.specs.declared.Head.{Head}
+use Rattle.builder.specs.Heads.{HeadTold, taken_before, head_of, HeadEnd, headed, misheaded, TypeDone, HeadDone}
 use Rattle.declarations.specs.Decls.{Decl, index_of, elsewhere_in, type_in, optional_in}
 use Rattle.grammar.specs.Derived.{Took, GivesIn, gives_none, gives_some}
 use Rattle.names.specs.Known.{Checked, good, wrong, ◌>>=◌, fault_if}
@@ -59,7 +58,7 @@ type-owns ds before w = go (index_of 5 w.text 0 before)
 
 -- The type
 
-pub type-none : {text rows : List ℕ} {n at : ℕ} {h : Head} {g : WordAt}
+pub type-none : {text rows : List ℕ} {n at : ℕ} {h : HeadTold} {g : WordAt}
     → at ≤ length text → Next text at g → (g.kind ≡ 256 → ⊥) → h.fault ≡ 0 → h.at ≡ g.next → h.class ≡ 0 → TypeDone text rows n at h
 unfolding optional_in
 type-none {text} {rows} {n} {at} {h} {g} inn N k f a e = record { high = λ _. omega (arith, a, N.high inn); done = go }
@@ -69,16 +68,16 @@ type-none {text} {rows} {n} {at} {h} {g} inn N k f a e = record { high = λ _. o
         headed f ((took-here text at 58 g colon ws (omega arith) N (subst (λ l. Took 58 l colon ws) q t)).behind ∙ ap (words_at text) (sym a)) e
     go (some v) colon ws₁ ws (gives_some {sign = s} {ws₁ = ws₂} t _) u = absurd (k (took-kind text at 256 g s ws₂ N t))
 
-looks-fail : {text : List ℕ} {ws : List Word} {h : Head} {f v : ℕ} (w : Word) (m : Checked ℕ) → Numbered f v m → Owns w m → (f ≡ 0 → ⊥) → h.fault ≡ f → h.at ≡ w.start → h.len ≡ length w.text
+looks-fail : {text : List ℕ} {ws : List Word} {h : HeadTold} {f v : ℕ} (w : Word) (m : Checked ℕ) → Numbered f v m → Owns w m → (f ≡ 0 → ⊥) → h.fault ≡ f → h.at ≡ w.start → h.len ≡ length w.text
     → HeadEnd text ws h m
 looks-fail w (good a) (found e _) o z e₁ e₂ e₃ = absurd (z e)
 looks-fail w (wrong n u) (missing e nz) o z e₁ e₂ e₃ = misheaded (e₁ ∙ e) nz (e₂ ∙ ap (λ (x : Word). x.start) (sym o)) (e₃ ∙ ap (λ (x : Word). length x.text) (sym o))
 
-looks-more : {text : List ℕ} {ws : List Word} {h : Head} {f v : ℕ} (m : Checked ℕ) → Numbered f v m → f ≡ 0 → h.fault ≡ 0 → ws ≡ words_at text h.at → h.class ≡ v → HeadEnd text ws h m
+looks-more : {text : List ℕ} {ws : List Word} {h : HeadTold} {f v : ℕ} (m : Checked ℕ) → Numbered f v m → f ≡ 0 → h.fault ≡ 0 → ws ≡ words_at text h.at → h.class ≡ v → HeadEnd text ws h m
 looks-more (good a) (found _ e) z e₁ e₂ e₃ = headed e₁ e₂ (e₃ ∙ e)
 looks-more (wrong n u) (missing e nz) z e₁ e₂ e₃ = absurd (nz (sym e ∙ z))
 
-pub type-fail : {text rows : List ℕ} {n at f v : ℕ} {h : Head} {g w : WordAt}
+pub type-fail : {text rows : List ℕ} {n at f v : ℕ} {h : HeadTold} {g w : WordAt}
     → at ≤ length text → Next text at g → g.kind ≡ 256 → Next text g.next w
     → ((kind : ℕ) → Numbered f v (type_in (held text rows n) (held text rows n) (word_of text kind w.start w.len))) → (f ≡ 0 → ⊥)
     → h.fault ≡ f → h.at ≡ w.start → h.len ≡ w.len → TypeDone text rows n at h
@@ -94,7 +93,7 @@ type-fail {text} {rows} {n} {at} {f} {v} {h} {g} {w} inn N k N₂ L z e₁ e₂ 
         (looks-fail (as_word text w) (type_in (held text rows n) (held text rows n) (as_word text w)) (L w.kind) (type-owns (held text rows n) (held text rows n) (as_word text w)) z e₁ e₂
         (e₃ ∙ sym (word-length N₂ (N.high inn))))
 
-pub type-more : {text rows : List ℕ} {n at f v : ℕ} {h : Head} {g w d : WordAt}
+pub type-more : {text rows : List ℕ} {n at f v : ℕ} {h : HeadTold} {g w d : WordAt}
     → at ≤ length text → Next text at g → g.kind ≡ 256 → Next text g.next w
     → ((kind : ℕ) → Numbered f v (type_in (held text rows n) (held text rows n) (word_of text kind w.start w.len))) → f ≡ 0
     → Next text w.next d → h.fault ≡ 0 → h.at ≡ d.next → h.class ≡ v → TypeDone text rows n at h
@@ -117,14 +116,14 @@ pub gives-kind : {text : List ℕ} {at : ℕ} {g : WordAt} {ws : List Word} (x :
 gives-kind {text} {at} {g} none N (gives_none q _) = sym (ne_eqb g.kind 256 (λ e. not-here text at 256 g N q e))
 gives-kind {text} {at} {g} (some v) N (gives_some {sign = s} {ws₁ = ws₁} t _) = sym (eq-eqb g.kind 256 (took-kind text at 256 g s ws₁ N t))
 
-fault-yes : {text : List ℕ} {ws : List Word} {h : Head} (b : Bool) (n : ℕ) (w : Word) (k : Unit {0} → Checked ℕ)
+fault-yes : {text : List ℕ} {ws : List Word} {h : HeadTold} (b : Bool) (n : ℕ) (w : Word) (k : Unit {0} → Checked ℕ)
     → b ≡ true → h.fault ≡ n → (n ≡ 0 → ⊥) → h.at ≡ w.start → h.len ≡ length w.text → HeadEnd text ws h (◌>>=◌ (fault_if b n w) k)
 fault-yes {text} {ws} {h} b n w k e e₁ nz e₂ e₃ = subst (λ t. HeadEnd text ws h (◌>>=◌ (fault_if t n w) k)) (sym e) (misheaded e₁ nz e₂ e₃)
 
-fault-no : {text : List ℕ} {ws : List Word} {h : Head} (b : Bool) (n : ℕ) (w : Word) (k : Unit {0} → Checked ℕ) → b ≡ false → HeadEnd text ws h (k tt) → HeadEnd text ws h (◌>>=◌ (fault_if b n w) k)
+fault-no : {text : List ℕ} {ws : List Word} {h : HeadTold} (b : Bool) (n : ℕ) (w : Word) (k : Unit {0} → Checked ℕ) → b ≡ false → HeadEnd text ws h (k tt) → HeadEnd text ws h (◌>>=◌ (fault_if b n w) k)
 fault-no {text} {ws} {h} b n w k e q = subst (λ t. HeadEnd text ws h (◌>>=◌ (fault_if t n w) k)) (sym e) q
 
-pub head-taken : {text rows : List ℕ} {n first k at : ℕ} {h : Head} {w : WordAt}
+pub head-taken : {text rows : List ℕ} {n first k at : ℕ} {h : HeadTold} {w : WordAt}
     → at ≤ length text → Next text at w → taken_before (held text rows n) (first + k) (take w.len (drop w.start text)) ≡ true
     → h.fault ≡ 4 → h.at ≡ w.start → h.len ≡ w.len → HeadDone text rows n first k at h
 unfolding head_of
@@ -137,7 +136,7 @@ head-taken {text} {rows} {n} {first} {k} {at} {h} {w} inn N t e₁ e₂ e₃ = r
       (e₃ ∙ sym (word-length N inn) ∙ ap (λ (v : Word). length v.text) (sym s.word));
 }
 
-pub head_first : {text rows : List ℕ} {n first k at : ℕ} {h : Head} {w g : WordAt}
+pub head_first : {text rows : List ℕ} {n first k at : ℕ} {h : HeadTold} {w g : WordAt}
     → at ≤ length text → Next text at w → taken_before (held text rows n) (first + k) (take w.len (drop w.start text)) ≡ false
     → Next text w.next g → (eqb k 0 && eqb g.kind 256) ≡ true
     → h.fault ≡ 5 → h.at ≡ w.start → h.len ≡ w.len → HeadDone text rows n first k at h
@@ -152,7 +151,7 @@ head_first {text} {rows} {n} {first} {k} {at} {h} {w} {g} inn N t N₂ b e₁ e�
       (e₂ ∙ ap (λ (v : Word). v.start) (sym s.word)) (e₃ ∙ sym (word-length N inn) ∙ ap (λ (v : Word). length v.text) (sym s.word)));
 }
 
-pub head_more : {text rows : List ℕ} {n first k at : ℕ} {h : Head} {w g : WordAt}
+pub head_more : {text rows : List ℕ} {n first k at : ℕ} {h : HeadTold} {w g : WordAt}
     → Next text at w → taken_before (held text rows n) (first + k) (take w.len (drop w.start text)) ≡ false
     → Next text w.next g → (eqb k 0 && eqb g.kind 256) ≡ false → TypeDone text rows n w.next h → HeadDone text rows n first k at h
 unfolding head_of

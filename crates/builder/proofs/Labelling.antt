@@ -8,9 +8,8 @@ use lib.Seq.{drop-append_seam, get_or-drop, length-take-le, take-nil, take-suc}
 use native.Mathlib.Omega.{arith}
 use Rattle.base.specs.Common.{member}
 use Rattle.resolver.proofs.Appending.{appends-length, appends-none, appends-then}
-use Rattle.builder.proofs.Laws.{Holds, ends-after, ends-map}
-use Rattle.builder.specs.Parts.{place_of, labelled_of, label_cells, ActsDone, LabelledDone}
-use Rattle.builder.specs.declared.Labelled.{Labelled}
+use Rattle.builder.proofs.Laws.{ends-off, Holds, ends-after, ends-map}
+use Rattle.builder.specs.Parts.{LabelledTold, place_of, labelled_of, label_cells, ActsDone, LabelledDone}
 use Rattle.cells.specs.Cells.{acts_cells}
 use Rattle.declarations.specs.Decls.{knowns_in}
 use Rattle.grammar.specs.Derived.{Took, ActsIn}
@@ -19,9 +18,7 @@ use Rattle.names.specs.Resolve.{labels_of, acts_of}
 use Rattle.places.proofs.Heres.{took-here}
 use Rattle.program.specs.Past.{past_all, exits_all}
 use Rattle.program.specs.Program as means
-use Rattle.resolver.specs.Resolved.{Appends, Ends, failed, Flags, LabelsEnd, labelled, mislabelled, LabelsDone}
-use Rattle.resolver.specs.declared.Done.{Done}
-use Rattle.resolver.specs.declared.Labels.{Labels}
+use Rattle.resolver.specs.Resolved.{BuiltTold, LabelsTold, DoneTold, Appends, Ends, failed, Flags, LabelsEnd, labelled, mislabelled, LabelsDone}
 use Rattle.scanner.specs.Next.{Next}
 use Rattle.scanner.specs.declared.WordAt.{WordAt}
 use Rattle.symbols.specs.Rows.{held}
@@ -48,14 +45,14 @@ labels_length p names rs (w ∷ ls) ks seen = go (lookup p ks w) (λ v. labels_l
     go (good v) q = tested v (member v seen) (q v)
     go (wrong n u) q = tt
 
-labels-fail : {E B : Type 0} {text : List ℕ} {ws₁ : List Word} {seen : List ℕ} {used : ℕ} {seen' : List ℕ} {l : Labels} (m : Checked (List ℕ)) (k : List ℕ → Checked B)
-    {ws : List Word} {cs : List ℕ} {c : ℕ} {cs' : List ℕ} {h : B → List ℕ} {R : B → Type 0} {d : Done}
+labels-fail : {E B : Type 0} {text : List ℕ} {ws₁ : List Word} {seen : List ℕ} {used : ℕ} {seen' : List ℕ} {l : LabelsTold} (m : Checked (List ℕ)) (k : List ℕ → Checked B)
+    {ws : List Word} {cs : List ℕ} {c : ℕ} {cs' : List ℕ} {h : B → List ℕ} {R : B → Type 0} {d : DoneTold}
     → LabelsEnd text ws₁ seen used seen' l m → (l.fault ≡ 0 → ⊥) → d.fault ≡ l.fault → d.at ≡ l.at → d.len ≡ l.len → Ends E text ws cs c cs' h R d (◌>>=◌ m k)
 labels-fail (good vs) k (labelled e _ _ _) z e₁ e₂ e₃ = absurd (z e)
 labels-fail (wrong n w) k (mislabelled e nz at len) z e₁ e₂ e₃ = failed (e₁ ∙ e) nz (e₂ ∙ at) (e₃ ∙ len)
 
-labels-more : {E B : Type 0} {text : List ℕ} {ws₁ : List Word} {seen : List ℕ} {used : ℕ} {seen' : List ℕ} {l : Labels} (long : ℕ) (m : Checked (List ℕ)) (k : List ℕ → Checked B)
-    {ws : List Word} {cs : List ℕ} {c : ℕ} {cs' : List ℕ} {h : B → List ℕ} {R : B → Type 0} {d : Done}
+labels-more : {E B : Type 0} {text : List ℕ} {ws₁ : List Word} {seen : List ℕ} {used : ℕ} {seen' : List ℕ} {l : LabelsTold} (long : ℕ) (m : Checked (List ℕ)) (k : List ℕ → Checked B)
+    {ws : List Word} {cs : List ℕ} {c : ℕ} {cs' : List ℕ} {h : B → List ℕ} {R : B → Type 0} {d : DoneTold}
     → LabelsEnd text ws₁ seen used seen' l m → Holds (λ vs. length vs ≡ long) m → l.fault ≡ 0
     → ((vs : List ℕ) → ws₁ ≡ words_at text l.at → l.used ≡ used + length vs → take l.used seen' ≡ take used seen ++ vs → length vs ≡ long → Ends E text ws cs c cs' h R d (k vs))
     → Ends E text ws cs c cs' h R d (◌>>=◌ m k)
@@ -103,7 +100,7 @@ copied seen seen' vs used to inn e q =
     ∙ ap (λ k. drop k (take used seen ++ vs)) (sym u) ∙ drop-append_seam (take used seen) vs in
     ap (λ k. (64 + k) ∷ take k (drop used seen')) d ∙ ap (λ k. (64 + length vs) ∷ k) t
 
-pub labelled-fail : {text rows : List ℕ} {n at : ℕ} {inside : Bool} {class labels : ℕ} {seen : List ℕ} {used : ℕ} {seen' cs : List ℕ} {c : ℕ} {l : Labels} {r : Labelled}
+pub labelled-fail : {text rows : List ℕ} {n at : ℕ} {inside : Bool} {class labels : ℕ} {seen : List ℕ} {used : ℕ} {seen' cs : List ℕ} {c : ℕ} {l : LabelsTold} {r : LabelledTold}
     → LabelsDone text rows n at labels seen used seen' l → (l.fault ≡ 0 → ⊥) → r.built.done.fault ≡ l.fault → r.built.done.at ≡ l.at → r.built.done.len ≡ l.len
     → LabelledDone text rows n at inside class labels seen used seen' cs c cs r
 unfolding labelled_of
@@ -115,7 +112,7 @@ labelled-fail {text} {rows} {n} {at} {inside} {class} {labels} L z e₁ e₂ e�
       labels-fail (labels_of p names rs ls (knowns_in labels (held text rows n)) old) _ (L.done p names rs g ls ws₁ d fits old m) z e₁ e₂ e₃;
 }
 
-pub labelled-more : {text rows : List ℕ} {n at : ℕ} {inside : Bool} {class labels : ℕ} {seen : List ℕ} {used : ℕ} {seen' cs : List ℕ} {c : ℕ} {cs₁ : List ℕ} {c₁ : ℕ} {cs' : List ℕ} {l : Labels} {r : Labelled} {w : WordAt}
+pub labelled-more : {text rows : List ℕ} {n at : ℕ} {inside : Bool} {class labels : ℕ} {seen : List ℕ} {used : ℕ} {seen' cs : List ℕ} {c : ℕ} {cs₁ : List ℕ} {c₁ : ℕ} {cs' : List ℕ} {l : LabelsTold} {r : LabelledTold} {w : WordAt}
     → used ≤ length seen → LabelsDone text rows n at labels seen used seen' l → l.fault ≡ 0 → Next text l.at w → Appends cs c (label_cells seen' used l.used) cs₁ c₁
     → ActsDone text rows n w.next inside class true false cs₁ c₁ cs' r.built → r.used ≡ l.used
     → LabelledDone text rows n at inside class labels seen used seen' cs c cs' r
@@ -133,4 +130,15 @@ labelled-more {text} {rows} {n} {at} {inside} {class} {labels} {seen} {used} {se
       (ends-after (acts_of p names rs q (place_of (held text rows n) inside class)) app
       (B.done p names rs g q ws (subst (λ k. ActsIn k ws q) (took-here text l.at 58 w colon ws₂ (omega arith) h (subst (λ k. Took 58 k colon ws₂) here t)).behind e)))
       (λ body flags. (ap (λ k. k ++ acts_cells body []) (sym (copied seen seen' vs used l.used inn used-is taken)), (flags, u ∙ used-is ∙ ap (λ k. used + k) long, ap (λ k. take k seen') u ∙ taken))));
+}
+
+-- where its actions have a fault nothing is said of its labels
+pub labelled-off : {text rows : List ℕ} {n at : ℕ} {inside : Bool} {class labels : ℕ} {seen : List ℕ} {used : ℕ} {seen' cs : List ℕ} {c : ℕ} {cs' : List ℕ} {b : BuiltTold} {u v : ℕ}
+    → LabelledDone text rows n at inside class labels seen used seen' cs c cs' (record { built = b; used = u }) → (b.done.fault ≡ 0 → ⊥)
+    → LabelledDone text rows n at inside class labels seen used seen' cs c cs' (record { built = b; used = v })
+labelled-off L z = record {
+  kept = L.kept;
+  same = L.same;
+  room = λ e. absurd (z e);
+  done = λ p names rs g ls q colon ws₁ ws₂ ws d fits t e old m. ends-off (L.done p names rs g ls q colon ws₁ ws₂ ws d fits t e old m) z;
 }

@@ -12,11 +12,9 @@ use Rattle.std.specs.Prelude.{if◌then◌else◌}
 use Rattle.base.specs.Common.{given}
 use Rattle.builder.proofs.Heading.{word-length}
 use Rattle.builder.proofs.Laws.{ends-fails}
-use Rattle.builder.specs.Heads.{taken_before, head_of, HeadEnd, headed, misheaded, HeadDone}
+use Rattle.builder.specs.Heads.{HeadTold, taken_before, head_of, HeadEnd, headed, misheaded, HeadDone}
 use Rattle.builder.specs.Parts.{place_of, ActsDone}
-use Rattle.builder.specs.Row.{rule_by, RuleDone}
-use Rattle.builder.specs.declared.Head.{Head}
-use Rattle.builder.specs.declared.Ruled.{Ruled}
+use Rattle.builder.specs.Row.{RuledTold, rule_by, RuleDone}
 use Rattle.cells.specs.Cells.{acts_cells}
 use Rattle.declarations.proofs.Rows.{given-mapped}
 use Rattle.declarations.specs.Decls.{Agrees, Decl, index_of, declared_in, elsewhere_in, type_in, optional_in, mapped, knowns_in}
@@ -28,9 +26,7 @@ use Rattle.names.specs.Understand.{is_one, is_first, taken, rule_means}
 use Rattle.places.proofs.Heres.{Same, took-here}
 use Rattle.program.specs.Past.{past_all}
 use Rattle.program.specs.Program as means
-use Rattle.resolver.specs.Resolved.{Appends, Ends, ended, failed}
-use Rattle.resolver.specs.declared.Built.{Built}
-use Rattle.resolver.specs.declared.Done.{Done}
+use Rattle.resolver.specs.Resolved.{DoneTold, BuiltTold, Appends, Ends, ended, failed}
 use Rattle.scanner.specs.Next.{Next}
 use Rattle.scanner.specs.declared.WordAt.{WordAt}
 use Rattle.symbols.specs.Rows.{held, gives_of, number_of}
@@ -40,20 +36,20 @@ use Rattle.words.specs.Words.{Word, words_at}
 
 -- How the code goes on after a head, and after actions
 
-pub head-fails : {E B : Type 0} {text : List ℕ} {ws₁ : List Word} {h : Head} (m : Checked ℕ) (k : ℕ → Checked B)
-    {ws : List Word} {cs : List ℕ} {c : ℕ} {cs' : List ℕ} {f : B → List ℕ} {P : B → Type 0} {d : Done}
+pub head-fails : {E B : Type 0} {text : List ℕ} {ws₁ : List Word} {h : HeadTold} (m : Checked ℕ) (k : ℕ → Checked B)
+    {ws : List Word} {cs : List ℕ} {c : ℕ} {cs' : List ℕ} {f : B → List ℕ} {P : B → Type 0} {d : DoneTold}
     → HeadEnd text ws₁ h m → (h.fault ≡ 0 → ⊥) → d.fault ≡ h.fault → d.at ≡ h.at → d.len ≡ h.len → Ends E text ws cs c cs' f P d (◌>>=◌ m k)
 head-fails (good a) k (headed e _ _) z e₁ e₂ e₃ = absurd (z e)
 head-fails (wrong n w) k (misheaded e nz at len) z e₁ e₂ e₃ = failed (e₁ ∙ e) nz (e₂ ∙ at) (e₃ ∙ len)
 
-pub head-then : {E B : Type 0} {text : List ℕ} {ws₁ : List Word} {h : Head} (m : Checked ℕ) (k : ℕ → Checked B)
-    {ws : List Word} {cs : List ℕ} {c : ℕ} {cs' : List ℕ} {f : B → List ℕ} {P : B → Type 0} {d : Done}
+pub head-then : {E B : Type 0} {text : List ℕ} {ws₁ : List Word} {h : HeadTold} (m : Checked ℕ) (k : ℕ → Checked B)
+    {ws : List Word} {cs : List ℕ} {c : ℕ} {cs' : List ℕ} {f : B → List ℕ} {P : B → Type 0} {d : DoneTold}
     → HeadEnd text ws₁ h m → h.fault ≡ 0 → (ws₁ ≡ words_at text h.at → Ends E text ws cs c cs' f P d (k h.class)) → Ends E text ws cs c cs' f P d (◌>>=◌ m k)
 head-then {E = E} {text = text} (good a) k {ws} {cs} {c} {cs'} {f} {P} {d} (headed e here q) z next = subst (λ t. Ends E text ws cs c cs' f P d (k t)) q (next here)
 head-then (wrong n w) k (misheaded e nz at len) z next = absurd (nz (sym e ∙ z))
 
-pub ends-bind : {E A B : Type 0} {text : List ℕ} {ws₁ : List Word} {cs : List ℕ} {c : ℕ} {cs₁ : List ℕ} {f : A → List ℕ} {P : A → Type 0} {r : Done} (m : Checked A) (k : A → Checked B)
-    {ws : List Word} {g : B → List ℕ} {Q : B → Type 0} {r₂ : Done}
+pub ends-bind : {E A B : Type 0} {text : List ℕ} {ws₁ : List Word} {cs : List ℕ} {c : ℕ} {cs₁ : List ℕ} {f : A → List ℕ} {P : A → Type 0} {r : DoneTold} (m : Checked A) (k : A → Checked B)
+    {ws : List Word} {g : B → List ℕ} {Q : B → Type 0} {r₂ : DoneTold}
     → Ends E text ws₁ cs c cs₁ f P r m → r.fault ≡ 0
     → ((a : A) → ws₁ ≡ words_at text r.at → (E → Appends cs c (f a) cs₁ r.count) → P a → Ends E text ws cs c cs₁ g Q r₂ (k a)) → Ends E text ws cs c cs₁ g Q r₂ (◌>>=◌ m k)
 ends-bind (good a) k (ended e here app pa) z next = next a here app pa
@@ -67,7 +63,7 @@ valued-is ds (suc n) = rw (ne_eqb (suc n) 0 (λ z. omega (arith, z)), lt-ltb 0 (
 
 -- The rule
 
-pub rule-headless : {text rows : List ℕ} {n first k at : ℕ} {cs : List ℕ} {c : ℕ} {h : Head} {r : Ruled}
+pub rule-headless : {text rows : List ℕ} {n first k at : ℕ} {cs : List ℕ} {c : ℕ} {h : HeadTold} {r : RuledTold}
     → HeadDone text rows n first k at h → (h.fault ≡ 0 → ⊥) → r.done.fault ≡ h.fault → r.done.at ≡ h.at → r.done.len ≡ h.len → RuleDone text rows n first k at cs c cs r
 unfolding rule_by
 rule-headless {text} {rows} {n} {first} {k} {at} {cs} {c} {h} {r} H z e₁ e₂ e₃ = record { same = refl; high = λ e. absurd (z (sym e₁ ∙ e)); done = go }
@@ -77,22 +73,22 @@ rule-headless {text} {rows} {n} {first} {k} {at} {cs} {c} {h} {r} H z e₁ e₂ 
     go p names rs g x ws (one_rule {colon = colon} {ws₁ = ws₁} {ws₂ = ws₂} {ws₃ = ws₃} t d u _ _) =
         head-fails (head_of (held text rows n) first k x) _ (H.done x colon ws₁ ws₂ ws₃ t d u) z e₁ e₂ e₃
 
-pub rule-fail : {text rows : List ℕ} {n first k at : ℕ} {cs : List ℕ} {c : ℕ} {cs' : List ℕ} {h : Head} {b : Built} {r : Ruled}
+pub rule-fail : {text rows : List ℕ} {n first k at : ℕ} {cs : List ℕ} {c : ℕ} {cs' : List ℕ} {h : HeadTold} {b : BuiltTold} {r : RuledTold}
     → HeadDone text rows n first k at h → h.fault ≡ 0 → ActsDone text rows n h.at false h.class true false cs c cs' b → (b.done.fault ≡ 0 → ⊥) → r.done ≡ b.done
     → RuleDone text rows n first k at cs c cs' r
 unfolding rule_by
 rule-fail {text} {rows} {n} {first} {k} {at} {cs} {c} {cs'} {h} {b} {r} H z B z₂ e =
-    record { same = B.kept.same; high = λ f. absurd (z₂ (sym (ap (λ (d : Done). d.fault) e) ∙ f)); done = go }
+    record { same = B.kept.same; high = λ f. absurd (z₂ (sym (ap (λ (d : DoneTold). d.fault) e) ∙ f)); done = go }
   where
     go : (p : Program) (names : Names) (rs : List KnownRule) → Agrees p names rs (held text rows n) → (x : written.Rule) (ws : List Word) → RuleIn (words_at text at) ws x
         → Ends (PairsAre text rows n p names) text ws cs c cs' (λ b. acts_cells b.body []) (λ b. r.valued ≡ b.valued) r.done (rule_by p names rs (held text rows n) first k x)
     go p names rs g x ws (one_rule {colon = colon} {ws₁ = ws₁} {ws₂ = ws₂} {ws₃ = ws₃} {ws₄ = ws₄} t d u q _) =
-        subst (λ (y : Done). Ends (PairsAre text rows n p names) text ws cs c cs' (λ b. acts_cells b.body []) (λ b. r.valued ≡ b.valued) y (rule_by p names rs (held text rows n) first k x)) (sym e)
+        subst (λ (y : DoneTold). Ends (PairsAre text rows n p names) text ws cs c cs' (λ b. acts_cells b.body []) (λ b. r.valued ≡ b.valued) y (rule_by p names rs (held text rows n) first k x)) (sym e)
         (head-then (head_of (held text rows n) first k x) _ (H.done x colon ws₁ ws₂ ws₃ t d u) z
         (λ here. ends-fails (acts_of p names rs x.body (place_of (held text rows n) false h.class)) _ (B.done p names rs g x.body ws₄ (subst (λ l. ActsIn l ws₄ x.body) here q)) z₂))
 
 -- the semicolon reached or not
-closing : {E : Type 0} {text : List ℕ} {ws : List Word} {cs : List ℕ} {c : ℕ} {cs' : List ℕ} {d : Done} (valued v : Bool) (b : means.Acts) (t : Bool) (w : Word) → t ≡ (valued && past_all b)
+closing : {E : Type 0} {text : List ℕ} {ws : List Word} {cs : List ℕ} {c : ℕ} {cs' : List ℕ} {d : DoneTold} (valued v : Bool) (b : means.Acts) (t : Bool) (w : Word) → t ≡ (valued && past_all b)
     → (t ≡ true → (d.fault ≡ 8) × (d.at ≡ w.start) × (d.len ≡ length w.text))
     → (t ≡ false → (d.fault ≡ 0) × (ws ≡ words_at text d.at) × (E → Appends cs c (acts_cells b []) cs' d.count) × (v ≡ valued))
     → Ends E text ws cs c cs' (λ (y : means.Rule). acts_cells y.body []) (λ (y : means.Rule). v ≡ y.valued) d
@@ -103,7 +99,7 @@ closing {E} {text} {ws} {cs} {c} {cs'} {d} valued v b t w e yes' no' = go (value
     go true q = let k = yes' q in failed k.0 (λ z. omega (arith, z)) k.1 k.2
     go false q = let k = no' q in ended k.0 k.1 k.2 k.3
 
-pub rule-closed : {text rows : List ℕ} {n first k at : ℕ} {cs : List ℕ} {c : ℕ} {cs' : List ℕ} {h : Head} {b : Built} {r : Ruled} {w : WordAt} {t : Bool}
+pub rule-closed : {text rows : List ℕ} {n first k at : ℕ} {cs : List ℕ} {c : ℕ} {cs' : List ℕ} {h : HeadTold} {b : BuiltTold} {r : RuledTold} {w : WordAt} {t : Bool}
     → HeadDone text rows n first k at h → h.fault ≡ 0 → ActsDone text rows n h.at false h.class true false cs c cs' b → b.done.fault ≡ 0 → Next text b.done.at w
     → t ≡ (ltb 0 h.class && b.past)
     → (t ≡ true → (r.done.fault ≡ 8) × (r.done.at ≡ w.start) × (r.done.len ≡ w.len))

@@ -13,10 +13,8 @@ use Rattle.builder.proofs.Declared.{sofar-start, sofar-more}
 use Rattle.builder.proofs.Encoding.{acts-cells}
 use Rattle.builder.proofs.Laws.{ends-here}
 use Rattle.builder.proofs.Ruling.{rule-means}
-use Rattle.builder.specs.Row.{rule_by, RuleDone, Sofar, RowEnd, row_built, row_faulty, RowDone}
-use Rattle.builder.specs.Rules.{sort_of, RulesEnd, built, faulty, RulesDone}
-use Rattle.builder.specs.declared.Ruled.{Ruled}
-use Rattle.builder.specs.declared.Rules.{Rules}
+use Rattle.builder.specs.Row.{RuledTold, rule_by, RuleDone, Sofar, RowEnd, row_built, row_faulty, RowDone}
+use Rattle.builder.specs.Rules.{RulesTold, sort_of, RulesEnd, built, faulty, RulesDone}
 use Rattle.cells.specs.Cells.{acts_cells, rules_cells, cells_start}
 use Rattle.declarations.specs.Decls.{Agrees}
 use Rattle.grammar.specs.Derived.{RulesIn, last_rule, more_rules}
@@ -27,8 +25,7 @@ use Rattle.names.specs.Understand.{rule_means, rules_mean}
 use Rattle.places.proofs.Heres.{kind-here}
 use Rattle.program.specs.Program as means
 use Rattle.program.specs.Program.{rule_of}
-use Rattle.resolver.specs.Resolved.{Appends, Ends, ended, failed}
-use Rattle.resolver.specs.declared.Done.{Done}
+use Rattle.resolver.specs.Resolved.{DoneTold, Appends, Ends, ended, failed}
 use Rattle.scanner.specs.Next.{Next}
 use Rattle.scanner.specs.declared.WordAt.{WordAt}
 use Rattle.symbols.proofs.Searches.{held-length}
@@ -45,15 +42,15 @@ held-short text rows n h = omega (arith, h, held-length text rows 0 n)
 -- One rule, then the rest
 
 -- a rule's fault is the fault of all
-row-fails : {E : Type 0} {text : List ℕ} {ws : List Word} {cs : List ℕ} {c : ℕ} {cs₁ : List ℕ} {f : means.Rule → List ℕ} {P : means.Rule → Type 0} {d : Done} (m : Checked means.Rule)
-    (k : means.Rule → Checked (List means.Rule)) {i : ℕ} {cs₀ : List ℕ} {c₀ : ℕ} {cs' starts sorts starts' sorts' : List ℕ} {r : Rules}
+row-fails : {E : Type 0} {text : List ℕ} {ws : List Word} {cs : List ℕ} {c : ℕ} {cs₁ : List ℕ} {f : means.Rule → List ℕ} {P : means.Rule → Type 0} {d : DoneTold} (m : Checked means.Rule)
+    (k : means.Rule → Checked (List means.Rule)) {i : ℕ} {cs₀ : List ℕ} {c₀ : ℕ} {cs' starts sorts starts' sorts' : List ℕ} {r : RulesTold}
     → Ends E text ws cs c cs₁ f P d m → (d.fault ≡ 0 → ⊥) → r.fault ≡ d.fault → r.at ≡ d.at → r.len ≡ d.len → RowEnd E i cs₀ c₀ cs' starts sorts starts' sorts' r (◌>>=◌ m k)
 row-fails (good a) k (ended e _ _ _) z e₁ e₂ e₃ = absurd (z e)
 row-fails (wrong n w) k (failed e nz at len) z e₁ e₂ e₃ = row_faulty (e₁ ∙ e) nz (e₂ ∙ at) (e₃ ∙ len)
 
 -- what was stored for the rule stays, what comes behind it is stored behind it
-row-then : {E : Type 0} {text : List ℕ} {ws : List Word} {cs : List ℕ} {c : ℕ} {cs₁ : List ℕ} {valued : Bool} {d : Done} (m : Checked means.Rule) (rest : Checked (List means.Rule))
-    {k : ℕ} {cs' starts sorts starts' sorts' : List ℕ} {r : Rules}
+row-then : {E : Type 0} {text : List ℕ} {ws : List Word} {cs : List ℕ} {c : ℕ} {cs₁ : List ℕ} {valued : Bool} {d : DoneTold} (m : Checked means.Rule) (rest : Checked (List means.Rule))
+    {k : ℕ} {cs' starts sorts starts' sorts' : List ℕ} {r : RulesTold}
     → length cs ≤ 60000 → k < length starts → k < length sorts
     → Ends E text ws cs c cs₁ (λ (b : means.Rule). acts_cells b.body []) (λ (b : means.Rule). valued ≡ b.valued) d m → d.fault ≡ 0
     → RowEnd E (k + 1) cs₁ d.count cs' (set starts k (c % 65536)) (set sorts k (sort_of valued)) starts' sorts' r rest
@@ -87,12 +84,12 @@ row-then {E} {text} {ws} {cs} {c} {cs₁} {valued} {d} (good a) (good prog) {k} 
         ap (λ t. get_or starts' t 0) (suc-is k x) ∙ new₂ y (omega (arith, fits, appends-length (app y))) x (omega (arith, h)) ∙ ap (λ t. cells_start t prog x) same
 
 -- the last of them
-row-none : {E : Type 0} {k : ℕ} {cs : List ℕ} {c : ℕ} {starts sorts : List ℕ} {r : Rules} → r.fault ≡ 0 → r.rules ≡ k → r.count ≡ c → (E → c ≤ suc (length cs)) → RowEnd E k cs c cs starts sorts starts sorts r (good [])
+row-none : {E : Type 0} {k : ℕ} {cs : List ℕ} {c : ℕ} {starts sorts : List ℕ} {r : RulesTold} → r.fault ≡ 0 → r.rules ≡ k → r.count ≡ c → (E → c ≤ suc (length cs)) → RowEnd E k cs c cs starts sorts starts sorts r (good [])
 unfolding rules_cells
 row-none {E} {k} {cs} {c} {starts} {sorts} {r} f e m h =
     row_built {prog = []} f (omega (arith, e)) (λ x. record { cells = refl; count = omega (arith, m, h x) }) (λ j _. refl) (λ j _. refl) (λ j q. absurd (omega (arith, q))) (λ _ _ j q. absurd (omega (arith, q)))
 
-counted : {E A : Type 0} {text : List ℕ} {ws : List Word} {cs : List ℕ} {c : ℕ} {cs₁ : List ℕ} {f : A → List ℕ} {P : A → Type 0} {d : Done} (m : Checked A)
+counted : {E A : Type 0} {text : List ℕ} {ws : List Word} {cs : List ℕ} {c : ℕ} {cs₁ : List ℕ} {f : A → List ℕ} {P : A → Type 0} {d : DoneTold} (m : Checked A)
     → Ends E text ws cs c cs₁ f P d m → d.fault ≡ 0 → E → d.count ≤ suc (length cs₁)
 counted (good a) (ended e here app pa) z x = omega (arith, (app x).count, appends-length (app x))
 counted (wrong n w) (failed e nz _ _) z x = absurd (nz (sym e ∙ z))
@@ -102,7 +99,7 @@ one-rule : (text rows : List ℕ) (n first k : ℕ) (p : Program) (names : Names
     → Agrees p names rs (held text rows n) → Sofar (held text rows n) first k seen (x ∷ rest) → rule_by p names rs (held text rows n) first k x ≡ rule_means p names rs seen x
 one-rule text rows n first k p names rs seen x rest A s = sym (rule-means p names rs (held text rows n) first k seen x A s.start (s.names x.rule.text))
 
-pub row-fail : {text rows : List ℕ} {n first k at : ℕ} {cs : List ℕ} {c : ℕ} {cs₁ starts sorts : List ℕ} {x : Ruled} {r : Rules}
+pub row-fail : {text rows : List ℕ} {n first k at : ℕ} {cs : List ℕ} {c : ℕ} {cs₁ starts sorts : List ℕ} {x : RuledTold} {r : RulesTold}
     → RuleDone text rows n first k at cs c cs₁ x → (x.done.fault ≡ 0 → ⊥) → r.fault ≡ x.done.fault → r.at ≡ x.done.at → r.len ≡ x.done.len
     → RowDone text rows n first k at cs c cs₁ starts sorts starts sorts r
 unfolding rules_mean
@@ -119,7 +116,7 @@ row-fail {text} {rows} {n} {first} {k} {at} {cs} {c} {cs₁} {starts} {sorts} {x
         (one-rule text rows n first k p names rs seen y rest A s) (row-fails (rule_by p names rs (held text rows n) first k y) _ (R.done p names rs A y ws₁ d) z e₁ e₂ e₃)
     go p names rs A seen [] ws s x4 _ = elim x4 [ ]
 
-pub row_last : {text rows : List ℕ} {n first k at : ℕ} {cs : List ℕ} {c : ℕ} {cs₁ starts sorts starts' sorts' : List ℕ} {x : Ruled} {r : Rules} {w : WordAt}
+pub row_last : {text rows : List ℕ} {n first k at : ℕ} {cs : List ℕ} {c : ℕ} {cs₁ starts sorts starts' sorts' : List ℕ} {x : RuledTold} {r : RulesTold} {w : WordAt}
     → length cs ≤ 60000 → k < length starts → k < length sorts
     → RuleDone text rows n first k at cs c cs₁ x → x.done.fault ≡ 0 → Next text x.done.at w → (w.kind ≡ 257 → ⊥)
     → starts' ≡ set starts k (c % 65536) → sorts' ≡ set sorts k (sort_of x.valued) → r.fault ≡ 0 → r.rules ≡ k + 1 → r.count ≡ x.done.count
@@ -146,7 +143,7 @@ some_rule : {ws ws' : List Word} {rs : List written.Rule} → RulesIn ws ws' rs 
 some_rule (last_rule _ _) = omega arith
 some_rule (more_rules _ _ _) = omega arith
 
-pub row-over : {text rows : List ℕ} {n first k at : ℕ} {cs : List ℕ} {c : ℕ} {cs₁ cs' starts sorts starts' sorts' : List ℕ} {x : Ruled} {r : Rules} {w : WordAt}
+pub row-over : {text rows : List ℕ} {n first k at : ℕ} {cs : List ℕ} {c : ℕ} {cs₁ cs' starts sorts starts' sorts' : List ℕ} {x : RuledTold} {r : RulesTold} {w : WordAt}
     → RuleDone text rows n first k at cs c cs₁ x → x.done.fault ≡ 0 → Next text x.done.at w → w.kind ≡ 257 → k + 1 ≡ 128
     → RowDone text rows n first k at cs c cs' starts sorts starts' sorts' r
 row-over {text} {rows} {n} {first} {k} {at} {cs} {c} {cs₁} {cs'} {starts} {sorts} {starts'} {sorts'} {x} {r} {w} R z N kind e = record { done = go }
@@ -160,7 +157,7 @@ row-over {text} {rows} {n} {first} {k} {at} {cs} {c} {cs₁} {cs'} {starts} {sor
     go p names rs A seen (y ∷ rest) ws s (more_rules d _ more) h = absurd (omega (arith, e, h, some_rule more))
     go p names rs A seen [] ws s x4 h = elim x4 [ ]
 
-pub row_next : {text rows : List ℕ} {n first k at : ℕ} {cs : List ℕ} {c : ℕ} {cs₁ cs' starts sorts starts₁ sorts₁ starts' sorts' : List ℕ} {x : Ruled} {r : Rules} {w : WordAt}
+pub row_next : {text rows : List ℕ} {n first k at : ℕ} {cs : List ℕ} {c : ℕ} {cs₁ cs' starts sorts starts₁ sorts₁ starts' sorts' : List ℕ} {x : RuledTold} {r : RulesTold} {w : WordAt}
     → n ≤ 512 → length cs ≤ 60000 → k < length starts → k < length sorts
     → RuleDone text rows n first k at cs c cs₁ x → x.done.fault ≡ 0 → Next text x.done.at w → w.kind ≡ 257
     → starts₁ ≡ set starts k (c % 65536) → sorts₁ ≡ set sorts k (sort_of x.valued)
@@ -188,7 +185,7 @@ row_next {text} {rows} {n} {first} {k} {at} {cs} {c} {cs₁} {cs'} {starts} {sor
 
 -- The whole
 
-whole-end : {E : Type 0} {cs cs' starts sorts starts' sorts' : List ℕ} {r : Rules} (m : Checked (List means.Rule)) → RowEnd E 0 cs 0 cs' starts sorts starts' sorts' r m → RulesEnd E cs cs' starts' sorts' r m
+whole-end : {E : Type 0} {cs cs' starts sorts starts' sorts' : List ℕ} {r : RulesTold} (m : Checked (List means.Rule)) → RowEnd E 0 cs 0 cs' starts sorts starts' sorts' r m → RulesEnd E cs cs' starts' sorts' r m
 whole-end {starts' = starts'} {sorts'} (good prog) (row_built f l app _ _ new₁ new₂) =
     built {prog = prog} f (omega (arith, l)) app (λ k h. ap (λ t. get_or sorts' t 0) (plain k) ∙ new₁ k h) (λ x q k h. ap (λ t. get_or starts' t 0) (plain k) ∙ new₂ x q k h)
   where
@@ -196,7 +193,7 @@ whole-end {starts' = starts'} {sorts'} (good prog) (row_built f l app _ _ new₁
     plain k = omega arith
 whole-end (wrong n w) (row_faulty e nz at len) = faulty e nz at len
 
-pub whole-done : {text rows : List ℕ} {n first at : ℕ} {cs cs' starts sorts starts' sorts' : List ℕ} {r : Rules}
+pub whole-done : {text rows : List ℕ} {n first at : ℕ} {cs cs' starts sorts starts' sorts' : List ℕ} {r : RulesTold}
     → n ≤ 512 → RowDone text rows n first 0 at cs 0 cs' starts sorts starts' sorts' r → RulesDone text rows n first at cs cs' starts' sorts' r
 whole-done {text} {rows} {n} {first} {at} few R = record {
   done = λ p names e q A ws d h.

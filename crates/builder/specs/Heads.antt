@@ -1,7 +1,9 @@
 -- A rule's head: its name, which nothing before it may have, and its type.
-use Rattle.std.specs.Prelude.{Bool, ◌&&◌, ◌||◌, List, ◌≡◌, ℕ, ◌+◌, ◌≤◌, eqb, ltb, length}
+use Rattle.std.specs.Prelude.{Result, Ok, Err, Bool, ◌&&◌, ◌||◌, List, ◌≡◌, ℕ, ◌+◌, ◌≤◌, eqb, ltb, length}
 use Rattle.std.proofs.Math.Option.{Option}
 use Rattle.base.specs.Common.{given}
+use Rattle.base.specs.Faults.{fault_number}
+use Rattle.base.specs.declared.Refusal.{Refusal}
 use Rattle.builder.specs.declared.Head.{Head}
 use Rattle.declarations.specs.Decls.{Decl, index_of, optional_in}
 use Rattle.grammar.specs.Derived.{Took, GivesIn}
@@ -21,19 +23,30 @@ head_of ds first k r = do
   _ ← fault_if (eqb k 0 && given r.gives) 5 r.rule
   optional_in ds ds r.gives
 
+-- the code's answer in numbers: the fault is 0, and there are the class and the place behind the head, or there is a fault at a word
+pub record HeadTold : Type 0 where
+  pub fault : ℕ
+  pub at : ℕ
+  pub len : ℕ
+  pub class : ℕ
+
+abbrev pub head_told : Result Head Refusal → HeadTold
+head_told (Ok h) = record { fault = 0; at = h.at; len = 0; class = h.class }
+head_told (Err e) = record { fault = fault_number e.fault; at = e.at; len = e.len; class = 0 }
+
 -- the code's answer tells the class and the words left, or the fault at its word
-pub data HeadEnd (text : List ℕ) (ws : List Word) (h : Head) : Checked ℕ → Type 0 where
+pub data HeadEnd (text : List ℕ) (ws : List Word) (h : HeadTold) : Checked ℕ → Type 0 where
   headed : {class : ℕ} → h.fault ≡ 0 → ws ≡ words_at text h.at → h.class ≡ class → HeadEnd text ws h (good class)
   misheaded : {n : ℕ} {w : Word} → h.fault ≡ n → (n ≡ 0 → ⊥) → h.at ≡ w.start → h.len ≡ length w.text → HeadEnd text ws h (wrong n w)
 
 -- a rule's type and its colon, from behind its name
-pub record TypeDone (text rows : List ℕ) (n at : ℕ) (h : Head) : Type 0 where
+pub record TypeDone (text rows : List ℕ) (n at : ℕ) (h : HeadTold) : Type 0 where
   pub high : h.fault ≡ 0 → h.at ≤ length text
   pub done : (g : Option Word) (colon : Word) (ws₁ ws : List Word) → GivesIn (words_at text at) ws₁ g → Took 58 ws₁ colon ws
       → HeadEnd text ws h (optional_in (held text rows n) (held text rows n) g)
 
 -- a rule's head to its colon
-pub record HeadDone (text rows : List ℕ) (n first k at : ℕ) (h : Head) : Type 0 where
+pub record HeadDone (text rows : List ℕ) (n first k at : ℕ) (h : HeadTold) : Type 0 where
   pub high : h.fault ≡ 0 → h.at ≤ length text
   pub done : (r : Rule) (colon : Word) (ws₁ ws₂ ws : List Word) → Took 257 (words_at text at) r.rule ws₁ → GivesIn ws₁ ws₂ r.gives
       → Took 58 ws₂ colon ws

@@ -1,6 +1,7 @@
 -- What the functions that resolve actions promise: for every program whose declarations the rows hold, and every tree that stands at the place,
 -- the outcome is that of crate names, the cells appended are the encoding of what it means, and the flags are those of crate program.
-use Rattle.std.specs.Prelude.{Bool, ◌&&◌, ◌||◌, List, [], ◌∷◌, ◌++◌, ◌≡◌, ℕ, suc, ◌+◌, ◌-◌, ◌≤◌, length, take, drop}
+use Rattle.std.specs.Prelude.{Result, Ok, Err, Bool, ◌&&◌, ◌||◌, List, [], ◌∷◌, ◌++◌, ◌≡◌, ℕ, suc, ◌+◌, ◌-◌, ◌≤◌, length, take, drop}
+use Rattle.base.specs.declared.Refusal.{Refusal}
 use Rattle.base.specs.Common.{member}
 use Rattle.base.specs.Tree.{cycle, choice, otherwise}
 use Rattle.builder.specs.declared.Labelled.{Labelled}
@@ -12,9 +13,7 @@ use Rattle.names.specs.Known.{Checked, good, ◌>>=◌, Known, KnownRule, Names}
 use Rattle.names.specs.Resolve.{Place, act_of, acts_of, alts_of, other_of, labels_of}
 use Rattle.program.specs.Past.{past, past_all, past_some, past_other, exits, exits_all, exits_some, exits_other}
 use Rattle.program.specs.Program as means
-use Rattle.resolver.specs.Resolved.{Ends, Flags}
-use Rattle.resolver.specs.declared.Built.{Built}
-use Rattle.resolver.specs.declared.Done.{Done}
+use Rattle.resolver.specs.Resolved.{DoneTold, BuiltTold, built_told, Ends, Flags}
 use Rattle.symbols.specs.Rows.{held, gives_of}
 use Rattle.syntax.specs.Written as written
 use Rattle.syntax.specs.Written.{Program}
@@ -46,7 +45,7 @@ abbrev pub choices_cells : ℕ → Choices → List ℕ
 choices_cells miss x = alts_cells x.0 (other_cells x.1 miss [])
 
 -- whether one of them, or one before them, goes past itself (`one`), and whether one has an exit (`some`)
-abbrev pub Marks : Built → Bool → Bool → Choices → Type 0
+abbrev pub Marks : BuiltTold → Bool → Bool → Choices → Type 0
 Marks r one some x = Flags r.past r.exits (one || (past_some x.0 || past_other x.1)) (some || (exits_some x.0 || exits_other x.1))
 
 -- the cells before an alternative's actions, its labels being those from `from` to `to` of the choice's
@@ -54,13 +53,13 @@ unfoldable pub label_cells : List ℕ → ℕ → ℕ → List ℕ
 label_cells seen from to = (64 + (to - from)) ∷ take (to - from) (drop from seen)
 
 -- the cells keep their number, and what was read ends inside the text
-pub record Kept (text : List ℕ) (from : ℕ) (cs cs' : List ℕ) (r : Done) : Type 0 where
+pub record Kept (text : List ℕ) (from : ℕ) (cs cs' : List ℕ) (r : DoneTold) : Type 0 where
   pub same : length cs' ≡ length cs
   pub low : r.fault ≡ 0 → from ≤ r.at
   pub high : r.fault ≡ 0 → r.at ≤ length text
 
 -- an action at the place `at`
-pub record ActDone (text rows : List ℕ) (n at : ℕ) (inside : Bool) (class : ℕ) (cs : List ℕ) (c : ℕ) (cs' : List ℕ) (r : Built) : Type 0 where
+pub record ActDone (text rows : List ℕ) (n at : ℕ) (inside : Bool) (class : ℕ) (cs : List ℕ) (c : ℕ) (cs' : List ℕ) (r : BuiltTold) : Type 0 where
   pub kept : Kept text (suc at) cs cs' r.done
   pub done : (p : Program) (names : Names) (rs : List KnownRule) → Agrees p names rs (held text rows n) → (a : written.Act) (ws : List Word)
       → ActIn (words_at text at) ws a
@@ -69,7 +68,7 @@ pub record ActDone (text rows : List ℕ) (n at : ℕ) (inside : Bool) (class : 
 
 -- actions, after others that go past themselves (`before`) or have an exit (`some`)
 pub record ActsDone (text rows : List ℕ) (n at : ℕ) (inside : Bool) (class : ℕ) (before some : Bool) (cs : List ℕ) (c : ℕ) (cs' : List ℕ)
-    (r : Built) : Type 0 where
+    (r : BuiltTold) : Type 0 where
   pub kept : Kept text at cs cs' r.done
   pub done : (p : Program) (names : Names) (rs : List KnownRule) → Agrees p names rs (held text rows n) → (q : written.Acts) (ws : List Word)
       → ActsIn (words_at text at) ws q
@@ -77,7 +76,7 @@ pub record ActsDone (text rows : List ℕ) (n at : ℕ) (inside : Bool) (class :
       (acts_of p names rs q (place_of (held text rows n) inside class))
 
 -- a cycle after its brace
-pub record CycleDone (text rows : List ℕ) (n at class : ℕ) (cs : List ℕ) (c : ℕ) (cs' : List ℕ) (r : Built) : Type 0 where
+pub record CycleDone (text rows : List ℕ) (n at class : ℕ) (cs : List ℕ) (c : ℕ) (cs' : List ℕ) (r : BuiltTold) : Type 0 where
   pub kept : Kept text at cs cs' r.done
   pub done : (p : Program) (names : Names) (rs : List KnownRule) → Agrees p names rs (held text rows n) → (q : written.Acts) (close : Word)
       (ws₁ ws : List Word)
@@ -86,7 +85,7 @@ pub record CycleDone (text rows : List ℕ) (n at class : ℕ) (cs : List ℕ) (
       (act_of p names rs (cycle q) (place_of (held text rows n) inside class))
 
 -- a choice after its bracket
-pub record ChoiceDone (text rows : List ℕ) (n at : ℕ) (inside : Bool) (class : ℕ) (cs : List ℕ) (c : ℕ) (cs' : List ℕ) (r : Built) : Type 0 where
+pub record ChoiceDone (text rows : List ℕ) (n at : ℕ) (inside : Bool) (class : ℕ) (cs : List ℕ) (c : ℕ) (cs' : List ℕ) (r : BuiltTold) : Type 0 where
   pub kept : Kept text at cs cs' r.done
   pub done : (p : Program) (names : Names) (rs : List KnownRule) → Agrees p names rs (held text rows n) → (s : written.Selector) (q : written.Alts)
       (o : written.Other)
@@ -97,7 +96,7 @@ pub record ChoiceDone (text rows : List ℕ) (n at : ℕ) (inside : Bool) (class
 -- alternatives after a bar, after others of which one goes past itself (`one`) or has an exit (`some`); the choice's labels are of the class
 -- `labels`, the first `used` of `seen` are those so far, and the cell `miss` stands for no otherwise
 pub record AltsDone (text rows : List ℕ) (n at : ℕ) (inside : Bool) (class labels miss : ℕ) (seen : List ℕ) (used : ℕ) (one some : Bool) (cs : List ℕ)
-    (c : ℕ) (cs' : List ℕ) (r : Built)
+    (c : ℕ) (cs' : List ℕ) (r : BuiltTold)
     : Type 0 where
   pub kept : Kept text at cs cs' r.done
   pub done : (p : Program) (names : Names) (rs : List KnownRule) → Agrees p names rs (held text rows n) → (q : written.Alts) (o : written.Other)
@@ -107,7 +106,7 @@ pub record AltsDone (text rows : List ℕ) (n at : ℕ) (inside : Bool) (class l
       (choices_of p names rs q o (place_of (held text rows n) inside class) (knowns_in labels (held text rows n)) old)
 
 -- otherwise after its star, whatever the cell for no otherwise
-pub record OtherDone (text rows : List ℕ) (n at : ℕ) (inside : Bool) (class : ℕ) (cs : List ℕ) (c : ℕ) (cs' : List ℕ) (r : Built) : Type 0 where
+pub record OtherDone (text rows : List ℕ) (n at : ℕ) (inside : Bool) (class : ℕ) (cs : List ℕ) (c : ℕ) (cs' : List ℕ) (r : BuiltTold) : Type 0 where
   pub kept : Kept text at cs cs' r.done
   pub done : (p : Program) (names : Names) (rs : List KnownRule) → Agrees p names rs (held text rows n) → (q : written.Acts) (colon close : Word)
       (ws₁ ws₂ ws : List Word)
@@ -115,9 +114,18 @@ pub record OtherDone (text rows : List ℕ) (n at : ℕ) (inside : Bool) (class 
       → Ends (PairsAre text rows n p names) text ws cs c cs' (λ b. other_cells b miss []) (λ b. Flags r.past r.exits (past_other b) (exits_other b)) r.done
       (other_of p names rs (otherwise q) (place_of (held text rows n) inside class))
 
+-- the code's answer in numbers
+pub record LabelledTold : Type 0 where
+  pub built : BuiltTold
+  pub used : ℕ
+
+abbrev pub labelled_told : Result Labelled Refusal → LabelledTold
+labelled_told (Ok l) = record { built = built_told (Ok l.built); used = l.used }
+labelled_told (Err e) = record { built = built_told (Err e); used = 0 }
+
 -- an alternative after its bar; its labels stand in `seen'` behind those before
 pub record LabelledDone (text rows : List ℕ) (n at : ℕ) (inside : Bool) (class labels : ℕ) (seen : List ℕ) (used : ℕ) (seen' cs : List ℕ) (c : ℕ)
-    (cs' : List ℕ) (r : Labelled)
+    (cs' : List ℕ) (r : LabelledTold)
     : Type 0 where
   pub kept : Kept text (suc at) cs cs' r.built.done
   pub same : length seen' ≡ length seen

@@ -1,11 +1,11 @@
 -- One rule, and the rules from one on: what is promised of them before the whole.
-use Rattle.std.specs.Prelude.{false, ◌&&◌, List, [], ◌≡◌, ℕ, ◌+◌, ◌<◌, ◌≤◌, eqb, ltb, length, get_or, drop}
+use Rattle.std.specs.Prelude.{Result, Ok, Err, Bool, false, ◌&&◌, List, [], ◌≡◌, ℕ, ◌+◌, ◌<◌, ◌≤◌, eqb, ltb, length, get_or, drop}
 use Rattle.base.specs.Common.{given}
+use Rattle.base.specs.declared.Refusal.{Refusal}
 use Rattle.builder.specs.Heads.{head_of}
 use Rattle.builder.specs.Parts.{place_of}
-use Rattle.builder.specs.Rules.{sort_of}
+use Rattle.builder.specs.Rules.{RulesTold, sort_of}
 use Rattle.builder.specs.declared.Ruled.{Ruled}
-use Rattle.builder.specs.declared.Rules.{Rules}
 use Rattle.cells.specs.Cells.{acts_cells, rules_cells, cells_start}
 use Rattle.declarations.specs.Decls.{Agrees, Decl, index_of, rule_decls}
 use Rattle.grammar.specs.Derived.{RuleIn, RulesIn}
@@ -16,7 +16,7 @@ use Rattle.names.specs.Understand.{is_one, is_first, rules_mean}
 use Rattle.program.specs.Past.{past_all}
 use Rattle.program.specs.Program as means
 use Rattle.program.specs.Program.{rule_of}
-use Rattle.resolver.specs.Resolved.{Appends, Ends}
+use Rattle.resolver.specs.Resolved.{DoneTold, read_told, fault_told, Appends, Ends}
 use Rattle.symbols.specs.Rows.{held, gives_of, number_of}
 use Rattle.syntax.specs.Written as written
 use Rattle.syntax.specs.Written.{Program}
@@ -30,7 +30,16 @@ rule_by p names rs ds first k r = do
   _ ← fault_if (given (gives_of ds class) && past_all b) 8 r.closing
   good (record { valued = given (gives_of ds class); body = b })
 
-pub record RuleDone (text rows : List ℕ) (n first k at : ℕ) (cs : List ℕ) (c : ℕ) (cs' : List ℕ) (r : Ruled) : Type 0 where
+-- the code's answer in numbers
+pub record RuledTold : Type 0 where
+  pub done : DoneTold
+  pub valued : Bool
+
+abbrev pub ruled_told : Result Ruled Refusal → RuledTold
+ruled_told (Ok r) = record { done = read_told r.at r.count; valued = r.valued }
+ruled_told (Err e) = record { done = fault_told e; valued = false }
+
+pub record RuleDone (text rows : List ℕ) (n first k at : ℕ) (cs : List ℕ) (c : ℕ) (cs' : List ℕ) (r : RuledTold) : Type 0 where
   pub same : length cs' ≡ length cs
   pub high : r.done.fault ≡ 0 → r.done.at ≤ length text
   pub done : (p : Program) (names : Names) (rs : List KnownRule) → Agrees p names rs (held text rows n) → (x : written.Rule) (ws : List Word)
@@ -44,7 +53,7 @@ pub record Sofar (ds : List Decl) (first k : ℕ) (seen : List (List ℕ)) (rest
   pub left : drop (first + k) ds ≡ rule_decls k rest
 
 -- the code's answer tells what the rules from the k-th on mean, the cells if E; what was written for those before stays
-pub data RowEnd (E : Type 0) (k : ℕ) (cs : List ℕ) (c : ℕ) (cs' starts sorts starts' sorts' : List ℕ) (r : Rules) : Checked (List means.Rule) → Type 0 where
+pub data RowEnd (E : Type 0) (k : ℕ) (cs : List ℕ) (c : ℕ) (cs' starts sorts starts' sorts' : List ℕ) (r : RulesTold) : Checked (List means.Rule) → Type 0 where
   row_built : {prog : List means.Rule} → r.fault ≡ 0 → r.rules ≡ k + length prog → (E → Appends cs c (rules_cells prog) cs' r.count)
       → ((j : ℕ) → j < k → get_or sorts' j 0 ≡ get_or sorts j 0) → ((j : ℕ) → j < k → get_or starts' j 0 ≡ get_or starts j 0)
       → ((j : ℕ) → j < length prog → get_or sorts' (k + j) 0 ≡ sort_of (rule_of prog j).valued)
@@ -54,7 +63,7 @@ pub data RowEnd (E : Type 0) (k : ℕ) (cs : List ℕ) (c : ℕ) (cs' starts sor
       → RowEnd E k cs c cs' starts sorts starts' sorts' r (wrong n w)
 
 -- the rules from the k-th on, at the place `at`
-pub record RowDone (text rows : List ℕ) (n first k at : ℕ) (cs : List ℕ) (c : ℕ) (cs' starts sorts starts' sorts' : List ℕ) (r : Rules) : Type 0 where
+pub record RowDone (text rows : List ℕ) (n first k at : ℕ) (cs : List ℕ) (c : ℕ) (cs' starts sorts starts' sorts' : List ℕ) (r : RulesTold) : Type 0 where
   pub done : (p : Program) (names : Names) (rs : List KnownRule) → Agrees p names rs (held text rows n) → (seen : List (List ℕ))
       (rest : List written.Rule) (ws : List Word)
       → Sofar (held text rows n) first k seen rest → RulesIn (words_at text at) ws rest → k + length rest ≤ 128

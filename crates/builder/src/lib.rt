@@ -3,40 +3,39 @@
 
 ghost use Rattle.std.specs.Prelude.{true, false, ◌&&◌, ◌||◌, [], ◌∷◌, ◌≡◌, ℕ, ◌+◌, ◌-◌, ◌%◌, ◌≤◌, ◌<◌, length, take, drop, set};
 ghost use Rattle.scanner.specs.Next.{Next};
-ghost use Rattle.resolver.specs.Resolved.{Appends};
+ghost use Rattle.base.specs.Faults.{fault_number};
+ghost use Rattle.resolver.specs.Resolved.{Appends, Faulted, fault_told, built_told};
 ghost use Rattle.symbols.specs.Index.{Kept};
 ghost use Rattle.symbols.specs.Rows.{held};
-ghost use Rattle.builder.specs.Heads.{taken_before, TypeDone, HeadDone};
-ghost use Rattle.builder.specs.Row.{RuleDone};
-ghost use Rattle.builder.specs.Rules.{sort_of, RulesDone};
-ghost use Rattle.builder.specs.Parts.{ActDone, ActsDone, CycleDone, ChoiceDone, AltsDone, OtherDone, LabelledDone, label_cells};
+ghost use Rattle.builder.specs.Heads.{taken_before, head_told, TypeDone, HeadDone};
+ghost use Rattle.builder.specs.Row.{RuleDone, ruled_told};
+ghost use Rattle.builder.specs.Rules.{sort_of, rules_told, RulesDone};
+ghost use Rattle.builder.specs.Parts.{ActDone, ActsDone, CycleDone, ChoiceDone, AltsDone, OtherDone, LabelledDone, labelled_told, label_cells};
 
+use base::{Fault, Refusal};
 use reader::is_closing;
-use resolver::{Built, Done, Scope};
+use resolver::{Built, Scope};
 use scanner::WordAt;
 
 // The first cell of an alternative without labels.
 const ALTERNATIVE: usize = cells::ALTERNATIVE as usize;
 
-// fault 0: there are `count` cells of `rules` rules. Else the fault's number and its word.
-#[derive(Clone, Copy)]
+// There are `count` cells of `rules` rules.
+#[derive(Clone, Copy, Debug, PartialEq, Eq)]
 pub struct Rules {
-    pub fault: u16,
-    pub at: usize,
-    pub len: usize,
     pub count: usize,
     pub rules: usize,
 }
 
 // What the rows hold: n declarations, the first rule's being `first`.
-#[derive(Clone, Copy)]
+#[derive(Clone, Copy, Debug, PartialEq, Eq)]
 pub struct Listed {
     pub n: usize,
     pub first: usize,
 }
 
 // A place in the text, how many cells there are, and how many labels the choice has.
-#[derive(Clone, Copy)]
+#[derive(Clone, Copy, Debug, PartialEq, Eq)]
 pub struct Spot {
     pub at: usize,
     pub count: usize,
@@ -44,81 +43,42 @@ pub struct Spot {
 }
 
 // A choice: the class of its labels, and the cell that stands for no otherwise.
-#[derive(Clone, Copy)]
+#[derive(Clone, Copy, Debug, PartialEq, Eq)]
 pub struct Choice {
     pub labels: usize,
     pub absent: u16,
 }
 
 // An alternative, and how many labels its choice has now.
-#[derive(Clone, Copy)]
+#[derive(Clone, Copy, Debug, PartialEq, Eq)]
 pub struct Labelled {
     pub built: Built,
     pub used: usize,
 }
 
-// A rule's head: its values' class (0: a procedure rule), and the place behind its colon.
-#[derive(Clone, Copy)]
+// A rule's head: the place behind its colon, and its values' class (0: a procedure rule).
+#[derive(Clone, Copy, Debug, PartialEq, Eq)]
 pub struct Head {
-    pub fault: u16,
     pub at: usize,
-    pub len: usize,
     pub class: usize,
 }
 
-// A rule, and whether it is a choice rule.
-#[derive(Clone, Copy)]
+// A rule that was read up to the place `at`: how many cells there are, and whether it is a choice rule.
+#[derive(Clone, Copy, Debug, PartialEq, Eq)]
 pub struct Ruled {
-    pub done: Done,
+    pub at: usize,
+    pub count: usize,
     pub valued: bool,
 }
 
-fn both(a: bool, b: bool) -> bool
-    ensures { result ≡ (a && b) }
+fn refused(fault: Fault, w: WordAt) -> Refusal
+    ensures { Faulted (fault_number fault) w.start w.len (fault_told result) }
 {
-    if a { b } else { false }
-}
-
-fn either(a: bool, b: bool) -> bool
-    ensures { result ≡ (a || b) }
-{
-    if a { true } else { b }
-}
-
-// Alternatives after others.
-fn joined(past: bool, exits: bool, b: Built) -> Built
-    ensures { (result.done ≡ b.done) × (result.past ≡ (past || b.past)) × (result.exits ≡ (exits || b.exits)) }
-{
-    let p = either(past, b.past);
-    let e = either(exits, b.exits);
-    let done = b.done;
-    Built {
-        done,
-        past: p,
-        exits: e,
+    Refusal {
+        fault,
+        at: w.start,
+        len: w.len,
     }
-}
-
-// The end of a choice without otherwise, read up to the place `at`.
-fn without_otherwise(
-    at: usize,
-    past: bool,
-    exits: bool,
-    absent: u16,
-    cells: &mut [u16],
-    count: usize,
-) -> Built
-    ensures appends { Appends cells.old count (absent ∷ []) cells.new result.done.count }
-    ensures fault_value { (result.done.fault ≡ 0) × (result.done.at ≡ at) × (result.past ≡ past) × (result.exits ≡ exits) }
-{
-    let e = resolver::put(cells, count, absent);
-    let done = Done {
-        fault: 0,
-        at,
-        len: 0,
-        count: e,
-    };
-    Built { done, past, exits }
 }
 
 // The next word.
@@ -149,9 +109,9 @@ pub fn build_actions(
     at: usize,
     cells: &mut [u16],
     count: usize,
-) -> Built
+) -> Result<Built, Refusal>
     requires { (at ≤ length text.now) × Kept text.now rows.now scope.n }
-    ensures { ActsDone text.now rows.now scope.n at scope.inside scope.class true false cells.old count cells.new result }
+    ensures { ActsDone text.now rows.now scope.n at scope.inside scope.class true false cells.old count cells.new (built_told result) }
 {
     let mut i = at;
     let mut c = count;
@@ -161,24 +121,19 @@ pub fn build_actions(
     loop {
         let w = look(text, i);
         if is_closing(w.kind) {
-            let e = resolver::put(cells, c, cells::END);
-            let done = Done {
-                fault: 0,
+            let count = resolver::put(cells, c, cells::END);
+            return Ok(Built {
                 at: i,
-                len: 0,
-                count: e,
-            };
-            return Built { done, past, exits };
+                count,
+                past,
+                exits,
+            });
         }
-        let a = build_action(text, rows, scope, i, w, cells, c);
-        let d = a.done;
-        if d.fault != 0 {
-            return a;
-        }
-        past = both(past, a.past);
-        exits = either(exits, a.exits);
-        i = d.at;
-        c = d.count;
+        let a = build_action(text, rows, scope, i, w, cells, c)?;
+        past &= a.past;
+        exits |= a.exits;
+        i = a.at;
+        c = a.count;
     }
 }
 
@@ -192,9 +147,9 @@ fn build_action(
     w: WordAt,
     cells: &mut [u16],
     count: usize,
-) -> Built
+) -> Result<Built, Refusal>
     requires { (at ≤ length text.now) × Next text.now at w × Kept text.now rows.now scope.n }
-    ensures { ActDone text.now rows.now scope.n at scope.inside scope.class cells.old count cells.new result }
+    ensures { ActDone text.now rows.now scope.n at scope.inside scope.class cells.old count cells.new (built_told result) }
 {
     if w.kind == words::DO {
         return build_cycle(text, rows, scope, w.next, cells, count);
@@ -214,34 +169,24 @@ fn build_cycle(
     at: usize,
     cells: &mut [u16],
     count: usize,
-) -> Built
+) -> Result<Built, Refusal>
     requires { (at ≤ length text.now) × Kept text.now rows.now scope.n }
-    ensures { CycleDone text.now rows.now scope.n at scope.class cells.old count cells.new result }
+    ensures { CycleDone text.now rows.now scope.n at scope.class cells.old count cells.new (built_told result) }
 {
     let c = resolver::put(cells, count, cells::CYCLE);
     let body = Scope {
         inside: true,
         ..scope
     };
-    let b = build_actions(text, rows, body, at, cells, c);
-    let d = b.done;
-    if d.fault != 0 {
-        return b;
-    }
-    let w = look(text, d.at);
-    let done = Done {
-        fault: 0,
-        at: w.next,
-        len: 0,
-        count: d.count,
-    };
+    let b = build_actions(text, rows, body, at, cells, c)?;
+    let w = look(text, b.at);
     // an exit belongs to the nearest cycle
-    let exits = false;
-    Built {
-        done,
+    Ok(Built {
+        at: w.next,
+        count: b.count,
         past: b.exits,
-        exits,
-    }
+        exits: false,
+    })
 }
 
 // The rest of a choice after its bracket.
@@ -253,24 +198,16 @@ fn build_choice(
     at: usize,
     cells: &mut [u16],
     count: usize,
-) -> Built
+) -> Result<Built, Refusal>
     requires { (at ≤ length text.now) × Kept text.now rows.now scope.n }
-    ensures { ChoiceDone text.now rows.now scope.n at scope.inside scope.class cells.old count cells.new result }
+    ensures { ChoiceDone text.now rows.now scope.n at scope.inside scope.class cells.old count cells.new (built_told result) }
 {
-    let s = resolver::resolve_selector(text, rows, scope.n, at, cells, count);
-    let d = s.done;
-    if d.fault != 0 {
-        return Built {
-            done: d,
-            past: false,
-            exits: false,
-        };
-    }
-    let w = look(text, d.at);
+    let s = resolver::resolve_selector(text, rows, scope.n, at, cells, count)?;
+    let w = look(text, s.at);
     let mut seen: [u16; base::LABELS] = [0; base::LABELS];
     let spot = Spot {
         at: w.next,
-        count: d.count,
+        count: s.count,
         used: 0,
     };
     let choice = Choice {
@@ -290,9 +227,9 @@ fn build_alternatives(
     choice: Choice,
     seen: &mut [u16],
     cells: &mut [u16],
-) -> Built
+) -> Result<Built, Refusal>
     requires { (spot.at ≤ length text.now) × Kept text.now rows.now scope.n × (length seen.old ≡ 64) × (spot.used ≤ 64) }
-    ensures { AltsDone text.now rows.now scope.n spot.at scope.inside scope.class choice.labels choice.absent seen.old spot.used false false cells.old spot.count cells.new result }
+    ensures { AltsDone text.now rows.now scope.n spot.at scope.inside scope.class choice.labels choice.absent seen.old spot.used false false cells.old spot.count cells.new (built_told result) }
 {
     let mut here = spot;
     let mut past = false;
@@ -301,25 +238,30 @@ fn build_alternatives(
     loop {
         let w = look(text, here.at);
         if w.kind == words::STAR {
-            let o = build_otherwise(text, rows, scope, w.next, cells, here.count);
-            return joined(past, exits, o);
+            let o = build_otherwise(text, rows, scope, w.next, cells, here.count)?;
+            past |= o.past;
+            exits |= o.exits;
+            return Ok(Built { past, exits, ..o });
         }
-        let l = build_labelled(text, rows, scope, here, choice.labels, seen, cells);
+        let l = build_labelled(text, rows, scope, here, choice.labels, seen, cells)?;
         let b = l.built;
-        let d = b.done;
-        if d.fault != 0 {
-            return b;
-        }
-        let j = joined(past, exits, b);
-        past = j.past;
-        exits = j.exits;
-        let s = look(text, d.at);
+        past |= b.past;
+        exits |= b.exits;
+        let s = look(text, b.at);
         if s.kind != words::BAR {
-            return without_otherwise(s.next, past, exits, choice.absent, cells, d.count);
+            let count = resolver::put(cells, b.count, choice.absent);
+            return Ok(Built {
+                at: s.next,
+                count,
+                past,
+                exits,
+            });
         }
-        here.at = s.next;
-        here.count = d.count;
-        here.used = l.used;
+        here = Spot {
+            at: s.next,
+            count: b.count,
+            used: l.used,
+        };
     }
 }
 
@@ -333,34 +275,20 @@ fn build_labelled(
     labels: usize,
     seen: &mut [u16],
     cells: &mut [u16],
-) -> Labelled
+) -> Result<Labelled, Refusal>
     requires { (spot.at ≤ length text.now) × Kept text.now rows.now scope.n × (length seen.old ≡ 64) × (spot.used ≤ 64) }
-    ensures { LabelledDone text.now rows.now scope.n spot.at scope.inside scope.class labels seen.old spot.used seen.new cells.old spot.count cells.new result }
+    ensures { LabelledDone text.now rows.now scope.n spot.at scope.inside scope.class labels seen.old spot.used seen.new cells.old spot.count cells.new (labelled_told result) }
 {
     let n = scope.n;
     let used = spot.used;
-    let l = resolver::resolve_labels(text, rows, n, spot.at, labels, seen, used);
-    if l.fault != 0 {
-        let done = Done {
-            fault: l.fault,
-            at: l.at,
-            len: l.len,
-            count: 0,
-        };
-        let built = Built {
-            done,
-            past: false,
-            exits: false,
-        };
-        return Labelled { built, used };
-    }
+    let l = resolver::resolve_labels(text, rows, n, spot.at, labels, seen, used)?;
     let w = look(text, l.at);
     let c = put_labels(seen, used, l.used, cells, spot.count);
-    let built = build_actions(text, rows, scope, w.next, cells, c);
-    Labelled {
+    let built = build_actions(text, rows, scope, w.next, cells, c)?;
+    Ok(Labelled {
         built,
         used: l.used,
-    }
+    })
 }
 
 // The rest of otherwise after its star.
@@ -372,29 +300,15 @@ fn build_otherwise(
     at: usize,
     cells: &mut [u16],
     count: usize,
-) -> Built
+) -> Result<Built, Refusal>
     requires { (at ≤ length text.now) × Kept text.now rows.now scope.n }
-    ensures { OtherDone text.now rows.now scope.n at scope.inside scope.class cells.old count cells.new result }
+    ensures { OtherDone text.now rows.now scope.n at scope.inside scope.class cells.old count cells.new (built_told result) }
 {
     let w = look(text, at);
     let c = resolver::put(cells, count, cells::OTHERWISE);
-    let b = build_actions(text, rows, scope, w.next, cells, c);
-    let d = b.done;
-    if d.fault != 0 {
-        return b;
-    }
-    let e = look(text, d.at);
-    let done = Done {
-        fault: 0,
-        at: e.next,
-        len: 0,
-        count: d.count,
-    };
-    Built {
-        done,
-        past: b.past,
-        exits: b.exits,
-    }
+    let b = build_actions(text, rows, scope, w.next, cells, c)?;
+    let e = look(text, b.at);
+    Ok(Built { at: e.next, ..b })
 }
 
 // An operation has the name, or a rule before declaration `before`.
@@ -412,79 +326,48 @@ fn is_taken(text: &[u8], rows: &[u16], n: usize, before: usize, start: usize, le
 }
 
 // A rule's type, where it has one, and its colon.
-pub fn read_type(text: &[u8], rows: &[u16], n: usize, at: usize) -> Head
+pub fn read_type(text: &[u8], rows: &[u16], n: usize, at: usize) -> Result<Head, Refusal>
     requires { (at ≤ length text.now) × Kept text.now rows.now n }
-    ensures { TypeDone text.now rows.now n at result }
+    ensures { TypeDone text.now rows.now n at (head_told result) }
 {
     let g = look(text, at);
     if g.kind != words::TWICE {
-        return Head {
-            fault: 0,
+        return Ok(Head {
             at: g.next,
-            len: 0,
             class: 0,
-        };
+        });
     }
     let w = look(text, g.next);
-    let class = match symbols::type_of(text, rows, n, n, w.start, w.len) {
-        Ok(class) => class,
-        Err(fault) => {
-            return Head {
-                fault: u16::from(fault),
-                at: w.start,
-                len: w.len,
-                class: 0,
-            };
+    match symbols::type_of(text, rows, n, n, w.start, w.len) {
+        Ok(class) => {
+            let c = look(text, w.next);
+            Ok(Head { at: c.next, class })
         }
-    };
-    let c = look(text, w.next);
-    Head {
-        fault: 0,
-        at: c.next,
-        len: 0,
-        class,
+        Err(fault) => Err(refused(fault, w)),
     }
 }
 
 // The head of rule k, the first rule being declaration `first`.
-fn read_head(text: &[u8], rows: &[u16], n: usize, first: usize, k: usize, at: usize) -> Head
+fn read_head(
+    text: &[u8],
+    rows: &[u16],
+    n: usize,
+    first: usize,
+    k: usize,
+    at: usize,
+) -> Result<Head, Refusal>
     requires { (at ≤ length text.now) × Kept text.now rows.now n × (first ≤ 512) × (k < 128) }
-    ensures { HeadDone text.now rows.now n first k at result }
+    ensures { HeadDone text.now rows.now n first k at (head_told result) }
 {
     let w = look(text, at);
     if is_taken(text, rows, n, first + k, w.start, w.len) {
-        return Head {
-            fault: base::REPEATED,
-            at: w.start,
-            len: w.len,
-            class: 0,
-        };
+        return Err(refused(Fault::Repeated, w));
     }
     let g = look(text, w.next);
-    if both(k == 0, g.kind == words::TWICE) {
-        return Head {
-            fault: base::NOT_WANTED,
-            at: w.start,
-            len: w.len,
-            class: 0,
-        };
+    if k == 0 && g.kind == words::TWICE {
+        return Err(refused(Fault::NotWanted, w));
     }
     read_type(text, rows, n, w.next)
-}
-
-fn rejected(fault: u16, at: usize, len: usize) -> Ruled
-    ensures { (result.done.fault ≡ fault) × (result.done.at ≡ at) × (result.done.len ≡ len) }
-{
-    let done = Done {
-        fault,
-        at,
-        len,
-        count: 0,
-    };
-    Ruled {
-        done,
-        valued: false,
-    }
 }
 
 // Rule k, its cells behind the first `count`.
@@ -496,36 +379,27 @@ fn build_rule(
     at: usize,
     cells: &mut [u16],
     count: usize,
-) -> Ruled
+) -> Result<Ruled, Refusal>
     requires { (at ≤ length text.now) × Kept text.now rows.now listed.n × (listed.first ≤ 512) × (k < 128) }
-    ensures { RuleDone text.now rows.now listed.n listed.first k at cells.old count cells.new result }
+    ensures { RuleDone text.now rows.now listed.n listed.first k at cells.old count cells.new (ruled_told result) }
 {
-    let h = read_head(text, rows, listed.n, listed.first, k, at);
-    if h.fault != 0 {
-        return rejected(h.fault, h.at, h.len);
-    }
+    let h = read_head(text, rows, listed.n, listed.first, k, at)?;
     let scope = Scope {
         n: listed.n,
         inside: false,
         class: h.class,
     };
-    let b = build_actions(text, rows, scope, h.at, cells, count);
-    let d = b.done;
+    let b = build_actions(text, rows, scope, h.at, cells, count)?;
     let valued = 0 < h.class;
-    if d.fault != 0 {
-        return Ruled { done: d, valued };
+    let w = look(text, b.at);
+    if valued && b.past {
+        return Err(refused(Fault::WrongReturn, w));
     }
-    let w = look(text, d.at);
-    if both(valued, b.past) {
-        return rejected(base::WRONG_RETURN, w.start, w.len);
-    }
-    let done = Done {
-        fault: 0,
+    Ok(Ruled {
         at: w.next,
-        len: 0,
-        count: d.count,
-    };
-    Ruled { done, valued }
+        count: b.count,
+        valued,
+    })
 }
 
 fn sort_of(valued: bool) -> u8
@@ -548,30 +422,6 @@ fn store(starts: &mut [u16], sorts: &mut [u8], k: usize, c: usize, valued: bool)
     sorts[k] = sort_of(valued);
 }
 
-fn refused(fault: u16, at: usize, len: usize) -> Rules
-    ensures { (result.fault ≡ fault) × (result.at ≡ at) × (result.len ≡ len) }
-{
-    Rules {
-        fault,
-        at,
-        len,
-        count: 0,
-        rules: 0,
-    }
-}
-
-fn finished(d: Done, rules: usize) -> Rules
-    ensures { (result.fault ≡ 0) × (result.rules ≡ rules) × (result.count ≡ d.count) }
-{
-    Rules {
-        fault: 0,
-        at: d.at,
-        len: 0,
-        count: d.count,
-        rules,
-    }
-}
-
 // The rules from the place `at` on: their cells, where each begins, and its sort.
 #[inline(never)]
 pub fn build(
@@ -582,31 +432,34 @@ pub fn build(
     cells: &mut [u16],
     starts: &mut [u16],
     sorts: &mut [u8],
-) -> Rules
+) -> Result<Rules, Refusal>
     requires { (at ≤ length text.now) × (listed.first ≤ 512) × Kept text.now rows.now listed.n × (length starts.old ≡ 128) × (length sorts.old ≡ 128) × (length cells.old ≤ 60000) }
-    ensures { RulesDone text.now rows.now listed.n listed.first at cells.old cells.new starts.new sorts.new result }
+    ensures { RulesDone text.now rows.now listed.n listed.first at cells.old cells.new starts.new sorts.new (rules_told result) }
 {
     let mut i = at;
     let mut c: usize = 0;
     let mut k: usize = 0;
     // no range: what is read says where the next begins
     loop {
-        let r = build_rule(text, rows, listed, k, i, cells, c);
-        let d = r.done;
-        if d.fault != 0 {
-            return refused(d.fault, d.at, d.len);
-        }
+        let r = build_rule(text, rows, listed, k, i, cells, c)?;
         store(starts, sorts, k, c, r.valued);
         let next = k + 1;
-        let w = look(text, d.at);
+        let w = look(text, r.at);
         if w.kind != words::NAME {
-            return finished(d, next);
+            return Ok(Rules {
+                count: r.count,
+                rules: next,
+            });
         }
         if next == base::RULES {
-            return refused(base::NOT_ALLOWED, d.at, 0);
+            return Err(Refusal {
+                fault: Fault::NotAllowed,
+                at: r.at,
+                len: 0,
+            });
         }
-        i = d.at;
-        c = d.count;
+        i = r.at;
+        c = r.count;
         k = next;
     }
 }

@@ -1,9 +1,10 @@
 -- A text without a fault of 1 to 9: it was read, and what it means is in the buffers.
 use mathlib.Core.List.{List}
-use mathlib.Core.Path.{◌≡◌, refl, sym, ◌∙◌}
+use mathlib.Core.Path.{◌≡◌, refl}
 use Prim.Native.Nat.{ℕ}
+use Rattle.std.specs.Prelude.{Ok}
 use Rattle.frontend.proofs.Steps.{decides-fine}
-use Rattle.frontend.specs.Resolving.{Ready, Rowed, Resolves, meant, mistaken, IsRead}
+use Rattle.frontend.specs.Resolving.{Ready, Rowed, Resolves, meant, IsRead}
 use Rattle.frontend.specs.declared.Resolved.{Resolved}
 use Rattle.names.specs.Known.{Checked, good, wrong}
 use Rattle.names.specs.Understand.{understand}
@@ -23,10 +24,9 @@ pub record Meant (text rows cells starts sorts : List ℕ) (r : Resolved) (p : P
   pub ready : Ready cells starts sorts r.rules r.cells prog
   pub rowed : Rowed text rows r p
 
-pub its-meaning : {text rows cells starts sorts : List ℕ} {r : Resolved} {p : Program} → Resolves text rows cells starts sorts r p (understand p) → r.fault ≡ 0
-    → Meant text rows cells starts sorts r p
-its-meaning {text} {rows} {cells} {starts} {sorts} {r} {p} resolved z = go (understand p) refl resolved
+pub its-meaning : {text rows cells starts sorts : List ℕ} {r : Resolved} {p : Program} → Resolves text rows cells starts sorts p (Ok r) (understand p) → Meant text rows cells starts sorts r p
+its-meaning {text} {rows} {cells} {starts} {sorts} {r} {p} resolved = go (understand p) refl resolved
   where
-    go : (m : Checked (List Rule)) → understand p ≡ m → Resolves text rows cells starts sorts r p m → Meant text rows cells starts sorts r p
-    go (good prog) u (meant q ready rowed) = record { prog = prog; means = u; ready = ready; rowed = rowed }
-    go (wrong k w) u (mistaken q nonzero start len) = absurd (nonzero (sym q ∙ z))
+    go : (m : Checked (List Rule)) → understand p ≡ m → Resolves text rows cells starts sorts p (Ok r) m → Meant text rows cells starts sorts r p
+    go (good prog) u (meant ready rowed) = record { prog = prog; means = u; ready = ready; rowed = rowed }
+    go (wrong k w) u x = elim x [ ]

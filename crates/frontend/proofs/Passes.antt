@@ -4,6 +4,9 @@ use mathlib.Core.Path.{◌≡◌, refl, sym, ◌∙◌, subst}
 use Prim.Native.Nat.{ℕ, ◌≤◌}
 use lib.ListN.{length}
 use native.Mathlib.Omega.{arith}
+use Rattle.std.specs.Prelude.{Result, Ok, Err}
+use Rattle.base.specs.Faults.{fault_number}
+use Rattle.base.specs.declared.Refusal.{Refusal}
 use Rattle.collector.specs.Collecting.{CollectedFor, Collects}
 use Rattle.collector.specs.declared.Collected.{Collected}
 use Rattle.declarations.proofs.Declaring.{declares-wrong, declares-good}
@@ -52,21 +55,21 @@ module _ (text : List ℕ) (p : Program) (ws : List Word) (e : parse text ≡ go
   few : length (decls_of p) ≤ 512
   few = few-decls (derives text p ws e)
 
-  pub declared_wrong : {rows''' cells starts sorts : List ℕ} {fault at len : ℕ} {r : Resolved} → Checks fault at len → (fault ≡ 0 → ⊥) → r.fault ≡ fault → r.at ≡ at → r.len ≡ len
-      → Resolves text rows''' cells starts sorts r p (understand p)
-  declared_wrong {rows'''} {cells} {starts} {sorts} {fault} {at} {len} {r} f z e₁ e₂ e₃ = go asked refl (outcome f)
+  pub declared_wrong : {rows''' cells starts sorts : List ℕ} {fault at len : ℕ} {x : Refusal} → Checks fault at len → (fault ≡ 0 → ⊥) → fault_number x.fault ≡ fault → x.at ≡ at → x.len ≡ len
+      → Resolves text rows''' cells starts sorts p (Err x) (understand p)
+  declared_wrong {rows'''} {cells} {starts} {sorts} {fault} {at} {len} {x} f z e₁ e₂ e₃ = go asked refl (outcome f)
     where
-      go : (m : Checked (Unit {0})) → asked ≡ m → Faults fault at len m → Resolves text rows''' cells starts sorts r p (understand p)
+      go : (m : Checked (Unit {0})) → asked ≡ m → Faults fault at len m → Resolves text rows''' cells starts sorts p (Err x) (understand p)
       go (good tt) d (clean q) = absurd (z q)
       go (wrong k w) d (faulty q nonzero start l) =
           let u : understand p ≡ wrong k w = understand-wrong p k w (declares-wrong p few k w d) in
-          rw u (mistaken (e₁ ∙ q) nonzero (e₂ ∙ start) (e₃ ∙ l))
+          rw u (mistaken (e₁ ∙ q) (e₂ ∙ start) (e₃ ∙ l))
 
-  pub declared_good : {rows''' cells starts sorts : List ℕ} {fault at len : ℕ} {r : Resolved} → Checks fault at len → fault ≡ 0 → ResolvesRules text rows'' rows''' c cells starts sorts r
-      → Resolves text rows''' cells starts sorts r p (understand p)
+  pub declared_good : {rows''' cells starts sorts : List ℕ} {fault at len : ℕ} {r : Result Resolved Refusal} → Checks fault at len → fault ≡ 0 → ResolvesRules text rows'' rows''' c cells starts sorts r
+      → Resolves text rows''' cells starts sorts p r (understand p)
   declared_good {rows'''} {cells} {starts} {sorts} {fault} {at} {len} {r} f z rests = go asked refl (outcome f)
     where
-      go : (m : Checked (Unit {0})) → asked ≡ m → Faults fault at len m → Resolves text rows''' cells starts sorts r p (understand p)
+      go : (m : Checked (Unit {0})) → asked ≡ m → Faults fault at len m → Resolves text rows''' cells starts sorts p r (understand p)
       go (wrong k w) d (faulty q nonzero start l) = absurd (nonzero (sym q ∙ z))
       go (good tt) d (clean q) =
           let x = declares-good p few d in

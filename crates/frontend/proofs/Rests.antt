@@ -9,8 +9,7 @@ use native.Mathlib.Omega.{arith}
 use Rattle.acceptance.proofs.Accepts.{rule-before, later-procedures}
 use Rattle.acceptance.proofs.Used.{rules-used, pairs-used, made-are, made-few}
 use Rattle.base.proofs.Laws.{lt-or-le}
-use Rattle.builder.specs.Rules.{RulesEnd, built, faulty, RulesDone}
-use Rattle.builder.specs.declared.Rules.{Rules}
+use Rattle.builder.specs.Rules.{RulesTold, RulesEnd, built, faulty, RulesDone}
 use Rattle.cells.specs.Cells.{rules_cells, cells_start, sort_of}
 use Rattle.declarations.proofs.Whole.{length-sections}
 use Rattle.declarations.specs.Decls.{Agrees, EntriesAt, decls_of, entries_of}
@@ -92,7 +91,7 @@ never-ok : {A : Type 0} {q : Result A Refusal} {x : Refusal} → q ≡ Err x →
 never-ok e g = false≢true (rw e at g)
 
 module _ {text rows rows' : List ℕ} {n first at : ℕ} {p : Program} {names : Names} (known : Declared text rows n first at p names) {A : Type 0} {q : Result A Refusal} (pairing : PairsDone text rows n first at rows' q)
-    {cs cs₁ starts₁ sorts₁ : List ℕ} {b : Rules} (done : RulesDone text rows' n first at cs cs₁ starts₁ sorts₁ b) where
+    {cs cs₁ starts₁ sorts₁ : List ℕ} {b : RulesTold} (done : RulesDone text rows' n first at cs cs₁ starts₁ sorts₁ b) where
   abbrev ks : List KnownRule
   ks = known_rules 0 p.rules
 
@@ -118,28 +117,27 @@ module _ {text rows rows' : List ℕ} {n first at : ℕ} {p : Program} {names : 
       known.left known.again known.ending known.count known.few (ordered own e))
 
   -- a fault of 3 to 8
-  pub rules-wrong : {cells starts sorts : List ℕ} {r : Resolved} → (b.fault ≡ 0 → ⊥) → r.fault ≡ b.fault → r.at ≡ b.at → r.len ≡ b.len → Resolves text rows' cells starts sorts r p (rules_by p names)
-  rules-wrong {cells} {starts} {sorts} {r} z e₁ e₂ e₃ = go (written_by p names) told
+  pub rules-wrong : {cells starts sorts : List ℕ} {x : Refusal} → (b.fault ≡ 0 → ⊥) → fault_number x.fault ≡ b.fault → x.at ≡ b.at → x.len ≡ b.len → Resolves text rows' cells starts sorts p (Err x) (rules_by p names)
+  rules-wrong {cells} {starts} {sorts} {x = refusal} z e₁ e₂ e₃ = go (written_by p names) told
     where
       go : (x : Checked (List Rule)) → RulesEnd (PairsAre text rows' n p names) cs cs₁ starts₁ sorts₁ b x
-          → Resolves text rows' cells starts sorts r p (◌>>=◌ x (λ own. ◌>>=◌ (made_by p names) (λ made. good (own ++ made))))
+          → Resolves text rows' cells starts sorts p (Err refusal) (◌>>=◌ x (λ own. ◌>>=◌ (made_by p names) (λ made. good (own ++ made))))
       go (good own) (built f _ _ _ _) = absurd (z f)
-      go (wrong k w) (faulty d nonzero start len) = mistaken (e₁ ∙ d) nonzero (e₂ ∙ start) (e₃ ∙ len)
+      go (wrong k w) (faulty d nonzero start len) = mistaken (e₁ ∙ d) (e₂ ∙ start) (e₃ ∙ len)
 
   -- then 9 at a `^`
-  pub limit-passed : {cells starts sorts : List ℕ} {r : Resolved} → b.fault ≡ 0 → {x : Refusal} → q ≡ Err x → r.fault ≡ fault_number x.fault → r.at ≡ x.at → r.len ≡ x.len
-      → Resolves text rows' cells starts sorts r p (rules_by p names)
-  limit-passed {cells} {starts} {sorts} {r} f {x = limit} z e₁ e₂ e₃ = go (written_by p names) refl told
+  pub limit-passed : {cells starts sorts : List ℕ} → b.fault ≡ 0 → {x : Refusal} → q ≡ Err x → Resolves text rows' cells starts sorts p (Err x) (rules_by p names)
+  limit-passed {cells} {starts} {sorts} f {x = limit} z = go (written_by p names) refl told
     where
       made : (own : List Rule) {x : Checked (List Rule)} → PairsEnd (held text rows n) [] rows' names (length p.rules) (pairs_of p.rules) q x
-          → Resolves text rows' cells starts sorts r p (◌>>=◌ x (λ made. good (own ++ made)))
+          → Resolves text rows' cells starts sorts p (Err limit) (◌>>=◌ x (λ made. good (own ++ made)))
       made own (paired g _) = absurd (never-ok z g)
       made own (passed {e = e} h g start len) =
           let same : limit ≡ e = same-refusal (sym z ∙ h) in
-          mistaken (e₁ ∙ ap (λ (x : Refusal). fault_number x.fault) same ∙ g) (λ y. omega (arith, y)) (e₂ ∙ ap (λ (x : Refusal). x.at) same ∙ start) (e₃ ∙ ap (λ (x : Refusal). x.len) same ∙ len)
+          mistaken (ap (λ (x : Refusal). fault_number x.fault) same ∙ g) (ap (λ (x : Refusal). x.at) same ∙ start) (ap (λ (x : Refusal). x.len) same ∙ len)
 
       go : (x : Checked (List Rule)) → written_by p names ≡ x → RulesEnd (PairsAre text rows' n p names) cs cs₁ starts₁ sorts₁ b x
-          → Resolves text rows' cells starts sorts r p (◌>>=◌ x (λ own. ◌>>=◌ (made_by p names) (λ made. good (own ++ made))))
+          → Resolves text rows' cells starts sorts p (Err limit) (◌>>=◌ x (λ own. ◌>>=◌ (made_by p names) (λ made. good (own ++ made))))
       go (good own) e _ = made own (ends own e)
       go (wrong k w) e (faulty d nonzero _ _) = absurd (nonzero (sym d ∙ f))
 
@@ -192,11 +190,11 @@ module _ {text rows rows' : List ℕ} {n first at : ℕ} {p : Program} {names : 
           }
 
     abbrev answer : Resolved
-    answer = record { fault = 0; at = 0; len = 0; cells = m.count; rules = m.rules; written = b.rules; declared = n; first = first; body = at }
+    answer = record { cells = m.count; rules = m.rules; written = b.rules; declared = n; first = first; body = at }
 
     -- the outcome, with what stands in the rows
     pub rules_made : b.fault ≡ 0 → IsOk q → at ≤ length text → Kept text rows n
-        → Resolves text rows' cs₂ starts₂ sorts₂ answer p (rules_by p names)
+        → Resolves text rows' cs₂ starts₂ sorts₂ p (Ok answer) (rules_by p names)
     rules_made f g inside kept = go (written_by p names) refl told
       where
         rowed : (own : List Rule) → written_by p names ≡ good own → b.rules ≡ length own → PairsAre text rows' n p names → Rowed text rows' answer p
@@ -225,13 +223,13 @@ module _ {text rows rows' : List ℕ} {n first at : ℕ} {p : Program} {names : 
         }
 
         made : (own : List Rule) → written_by p names ≡ good own → RulesEnd (PairsAre text rows' n p names) cs cs₁ starts₁ sorts₁ b (good own) → {x : Checked (List Rule)} → made_by p names ≡ x
-            → PairsEnd (held text rows n) [] rows' names (length p.rules) (pairs_of p.rules) q x → Resolves text rows' cs₂ starts₂ sorts₂ answer p (◌>>=◌ x (λ made. good (own ++ made)))
+            → PairsEnd (held text rows n) [] rows' names (length p.rules) (pairs_of p.rules) q x → Resolves text rows' cs₂ starts₂ sorts₂ p (Ok answer) (◌>>=◌ x (λ made. good (own ++ made)))
         made own e (built z number appends sorted begins) d (paired {ms = ms} _ h) =
             let are = pairs-are own e h in
-            meant refl (ready own ms e d are (built z number appends sorted begins)) (rowed own e number are)
+            meant (ready own ms e d are (built z number appends sorted begins)) (rowed own e number are)
         made own e _ d (passed h _ _ _) = absurd (never-ok h g)
 
         go : (x : Checked (List Rule)) → written_by p names ≡ x → RulesEnd (PairsAre text rows' n p names) cs cs₁ starts₁ sorts₁ b x
-            → Resolves text rows' cs₂ starts₂ sorts₂ answer p (◌>>=◌ x (λ own. ◌>>=◌ (made_by p names) (λ made. good (own ++ made))))
+            → Resolves text rows' cs₂ starts₂ sorts₂ p (Ok answer) (◌>>=◌ x (λ own. ◌>>=◌ (made_by p names) (λ made. good (own ++ made))))
         go (good own) e t = made own e t refl (ends own e)
         go (wrong j w) e (faulty d nonzero _ _) = absurd (nonzero (sym d ∙ f))

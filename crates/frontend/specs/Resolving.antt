@@ -1,5 +1,7 @@
 -- What the passes over a text that was read promise: its rules' cells in the buffers and its declarations in the rows, or a fault of 3 to 8, of 45 or of 9.
-use Rattle.std.specs.Prelude.{List, [], ◌++◌, ◌≡◌, ℕ, ◌+◌, ◌<◌, ◌≤◌, length, get_or}
+use Rattle.std.specs.Prelude.{Result, Ok, Err, List, [], ◌++◌, ◌≡◌, ℕ, ◌+◌, ◌<◌, ◌≤◌, length, get_or}
+use Rattle.base.specs.Faults.{fault_number}
+use Rattle.base.specs.declared.Refusal.{Refusal}
 use Rattle.cells.specs.Cells.{rules_cells, cells_start}
 use Rattle.collector.specs.declared.Collected.{Collected}
 use Rattle.declarations.specs.Decls.{Agrees, EntriesAt, decls_of, entries_of, sections_decls}
@@ -75,18 +77,18 @@ pub record Rowed (text rows : List ℕ) (r : Resolved) (p : Program) : Type 0 wh
   pub pairs : PairsAre text rows r.declared p names
 
 -- what the text means is in the buffers, or it has a fault
-pub data Resolves (text rows cells starts sorts : List ℕ) (r : Resolved) (p : Program) : Checked (List Rule) → Type 0 where
-  meant : {prog : List Rule} → r.fault ≡ 0 → Ready cells starts sorts r.rules r.cells prog → Rowed text rows r p → Resolves text rows cells starts sorts r p (good prog)
-  mistaken : {n : ℕ} {w : Word} → r.fault ≡ n → (n ≡ 0 → ⊥) → r.at ≡ w.start → r.len ≡ length w.text → Resolves text rows cells starts sorts r p (wrong n w)
+pub data Resolves (text rows cells starts sorts : List ℕ) (p : Program) : Result Resolved Refusal → Checked (List Rule) → Type 0 where
+  meant : {r : Resolved} {prog : List Rule} → Ready cells starts sorts r.rules r.cells prog → Rowed text rows r p → Resolves text rows cells starts sorts p (Ok r) (good prog)
+  mistaken : {e : Refusal} {n : ℕ} {w : Word} → fault_number e.fault ≡ n → e.at ≡ w.start → e.len ≡ length w.text → Resolves text rows cells starts sorts p (Err e) (wrong n w)
 
 -- the rules of a text whose declarations are in order, resolved
-pub record ResolvesRules (text rows rows' : List ℕ) (c : Collected) (cells starts sorts : List ℕ) (r : Resolved) : Type 0 where
+pub record ResolvesRules (text rows rows' : List ℕ) (c : Collected) (cells starts sorts : List ℕ) (r : Result Resolved Refusal) : Type 0 where
   pub size : length rows' ≡ length rows
-  pub rules : (p : Program) (names : Names) → Declared text rows c.count c.rules c.at p names → Resolves text rows' cells starts sorts r p (rules_by p names)
+  pub rules : (p : Program) (names : Names) → Declared text rows c.count c.rules c.at p names → Resolves text rows' cells starts sorts p r (rules_by p names)
 
 -- a text that is read, resolved
-abbrev pub ResolvesRead : List ℕ → List ℕ → List ℕ → List ℕ → List ℕ → Resolved → Type 0
-ResolvesRead text rows cells starts sorts r = (p : Program) (ws : List Word) → parse text ≡ got p ws → Resolves text rows cells starts sorts r p (understand p)
+abbrev pub ResolvesRead : List ℕ → List ℕ → List ℕ → List ℕ → List ℕ → Result Resolved Refusal → Type 0
+ResolvesRead text rows cells starts sorts r = (p : Program) (ws : List Word) → parse text ≡ got p ws → Resolves text rows cells starts sorts p r (understand p)
 
 -- the syntax pass has read the text
 pub record IsRead (text : List ℕ) : Type 0 where

@@ -5,17 +5,15 @@ ghost use Rattle.std.specs.Prelude.{◌≡◌, ◌≤◌, length};
 ghost use Rattle.frontend.specs.Resolving.{ResolvesRules, ResolvesRead};
 ghost use Rattle.symbols.specs.Index.{Kept};
 
+use base::Refusal;
 use builder::Listed;
 use collector::Collected;
 use levels::Made;
 
-// A text whose rules are resolved: 0, or the number and the part of its first fault; the cells that its rules take, also those past the
-// room for them; its rules, and how many of them are written; its declarations, the row of the first rule's, and where the rules are read again.
-#[derive(Clone, Copy)]
+// A text whose rules are resolved: the cells that its rules take, also those past the room for them; its rules, and how many of them are
+// written; its declarations, the row of the first rule's, and where the rules are read again.
+#[derive(Clone, Copy, Debug, PartialEq, Eq)]
 pub struct Resolved {
-    pub fault: u16,
-    pub at: usize,
-    pub len: usize,
     pub cells: usize,
     pub rules: usize,
     pub written: usize,
@@ -30,22 +28,6 @@ pub const ROWS: usize = symbols::PAIR_SECTION + symbols::PAIR * base::RULES;
 pub const CELLS: usize = cells::CELLS;
 
 pub const RULES: usize = base::RULES;
-
-fn mistake(fault: u16, at: usize, len: usize) -> Resolved
-    ensures { (result.fault ≡ fault) × (result.at ≡ at) × (result.len ≡ len) }
-{
-    Resolved {
-        fault,
-        at,
-        len,
-        cells: 0,
-        rules: 0,
-        written: 0,
-        declared: 0,
-        first: 0,
-        body: 0,
-    }
-}
 
 // How many cells there are, also one above the room for them.
 fn filled(count: usize) -> usize
@@ -63,36 +45,28 @@ fn resolve_rules(
     cells: &mut [u16],
     starts: &mut [u16],
     sorts: &mut [u8],
-) -> Resolved
+) -> Result<Resolved, Refusal>
     requires { (length text.now ≤ 65535) × (length rows.old ≡ 6017) × Kept text.now rows.old c.count × (c.rules ≤ 512) × (c.at ≤ length text.now) × (length cells.old ≡ 4224) × (length starts.old ≡ 128) × (length sorts.old ≡ 128) }
     ensures { ResolvesRules text.now rows.old rows.new c cells.new starts.new sorts.new result }
 {
     let q = maker::pairs(text, rows, c.count, c.rules, c.at);
     let first = c.rules;
     let listed = Listed { n: c.count, first };
-    let b = builder::build(text, rows, listed, c.at, cells, starts, sorts);
-    if b.fault != 0 {
-        return mistake(b.fault, b.at, b.len);
-    }
-    if let Err(limit) = q {
-        return mistake(u16::from(limit.fault), limit.at, limit.len);
-    }
+    let b = builder::build(text, rows, listed, c.at, cells, starts, sorts)?;
+    q?;
     let written = Made {
         count: filled(b.count),
         rules: b.rules,
     };
     let m = levels::make(text, rows, c.count, written, cells, starts, sorts);
-    Resolved {
-        fault: 0,
-        at: 0,
-        len: 0,
+    Ok(Resolved {
         cells: m.count,
         rules: m.rules,
         written: b.rules,
         declared: c.count,
         first: c.rules,
         body: c.at,
-    }
+    })
 }
 
 // A text that the syntax pass has read, up to its rules' cells: its declarations into rows, then its rules into cells.
@@ -103,14 +77,12 @@ pub fn resolve(
     cells: &mut [u16],
     starts: &mut [u16],
     sorts: &mut [u8],
-) -> Resolved
+) -> Result<Resolved, Refusal>
     requires { (length text.now ≤ 65535) × (length rows.old ≡ 6017) × (length cells.old ≡ 4224) × (length starts.old ≡ 128) × (length sorts.old ≡ 128) }
     ensures { ResolvesRead text.now rows.new cells.new starts.new sorts.new result }
 {
     let c = collector::collect(text, rows);
     symbols::index(text, rows, c.count);
-    if let Err(refusal) = declarer::check_declarations(text, rows, c.count) {
-        return mistake(u16::from(refusal.fault), refusal.at, refusal.len);
-    }
+    declarer::check_declarations(text, rows, c.count)?;
     resolve_rules(text, rows, c, cells, starts, sorts)
 }

@@ -4,6 +4,7 @@ use mathlib.Core.List.{List}
 use mathlib.Core.Path.{◌≡◌, sym, ap, ◌∙◌}
 use Prim.Native.Nat.{ℕ, ◌*◌}
 use lib.ListN.{length, take, replicate, length-replicate}
+use Rattle.std.specs.Prelude.{Option}
 use Rattle.figure.specs.Count.{figure}
 use Rattle.figure.specs.Told.{Told, untold, told, told_if}
 use Rattle.frontend.specs.Resolving.{Ready}
@@ -16,7 +17,6 @@ use Rattle.translator.proofs.Ends.{stands}
 use Rattle.translator.specs.Answered.{answered, Settles, Finishes, Stands}
 use Rattle.translator.specs.Measured.{as_told, Tabled}
 use Rattle.translator.specs.declared.Answer.{Answer}
-use Rattle.translator.specs.declared.Figure.{Figure}
 
 -- a program whose answer is not "finishing" has none
 pub no-figure : (a : means.Answer) (prog : List Rule) {old new : List ℕ} {r : Answer} → r.finishing ≡ false → Settles a untold old new r → Settles a (told_if a prog) old new r
@@ -25,13 +25,13 @@ no-figure (accepted words true) prog v s = absurd (false≢true (sym v ∙ ap (�
 no-figure (accepted words false) prog v s = s
 no-figure (refused n w) prog v s = s
 
-pub the-figure : (a : means.Answer) (prog : List Rule) {old new : List ℕ} {r r' : Answer} {f : Figure} → r.finishing ≡ true → Settles a untold old new r → as_told f ≡ told (figure prog)
-    → r' ≡ record { number = r.number; start = r.start; len = r.len; words = r.words; finishing = r.finishing; figure = f.figure; check = f.number }
+pub the-figure : (a : means.Answer) (prog : List Rule) {old new : List ℕ} {r r' : Answer} (f : Option ℕ) → r.finishing ≡ true → Settles a untold old new r → as_told f ≡ told (figure prog)
+    → r' ≡ record { number = r.number; start = r.start; len = r.len; words = r.words; finishing = r.finishing; figure = (as_told f).figure; check = (as_told f).number }
     → Settles a (told_if a prog) old new r'
 unfolding told_if answered
-the-figure (accepted words true) prog v s e q = record { answer = q ∙ rw s.answer (ap (λ (o : Told). answered (accepted words true) o) e); lent = s.lent }
-the-figure (accepted words false) prog v s e q = absurd (false≢true (sym (ap (λ (b : Answer). b.finishing) s.answer) ∙ v))
-the-figure (refused n w) prog v s e q = absurd (false≢true (sym (ap (λ (b : Answer). b.finishing) s.answer) ∙ v))
+the-figure (accepted words true) prog f v s e q = record { answer = q ∙ rw s.answer (ap (λ (o : Told). answered (accepted words true) o) e); lent = s.lent }
+the-figure (accepted words false) prog f v s e q = absurd (false≢true (sym (ap (λ (b : Answer). b.finishing) s.answer) ∙ v))
+the-figure (refused n w) prog f v s e q = absurd (false≢true (sym (ap (λ (b : Answer). b.finishing) s.answer) ∙ v))
 
 -- where the program is finishing, its table and its rules' starts stand there
 pub stood : {size : ℕ} {cells starts sorts : List ℕ} {rules filled : ℕ} {old new : List ℕ} {r : Answer} (places : List ℕ) (located : ℕ) → Finishes size cells starts sorts rules filled old new r

@@ -393,9 +393,6 @@ pub fn conclude(
     ensures { Concludes size cells.now starts.now sorts.now made.rules made.count table.old table.new result }
 {
     let b = Resolved {
-        fault: 0,
-        at: 0,
-        len: 0,
         cells: made.count,
         rules: made.rules,
         written: 0,

@@ -33,13 +33,16 @@ use Rattle.program.specs.Table.{place, size_rules}
 use Rattle.reader.specs.Counting.{Decides}
 use Rattle.reader.specs.Answers.{Out}
 use Rattle.symbols.specs.Rows.{held}
+use Rattle.base.specs.Faults.{fault_number}
+use Rattle.base.specs.declared.Refusal.{Refusal}
+use Rattle.std.specs.Prelude.{Ok, Err}
 use Rattle.syntax.specs.Parse.{parse}
 use Rattle.syntax.specs.Reading.{got}
 use Rattle.syntax.specs.Written.{Program}
 use Rattle.frontend.proofs.Buffers.{ready-cells, refused-20, accepts-it, too_long}
 use Rattle.frontend.proofs.Meant.{its-meaning}
 use Rattle.frontend.proofs.Steps.{decides-fault, process-fault, process-read, checked-wrong, checked-good}
-use Rattle.frontend.specs.Resolving.{Rowed, Resolves, meant, mistaken}
+use Rattle.frontend.specs.Resolving.{Rowed, Resolves, mistaken}
 use Rattle.frontend.specs.declared.Resolved.{Resolved}
 use Rattle.words.specs.Words.{Word}
 
@@ -148,34 +151,34 @@ as_read : (text : List ℕ) (room : ℕ) (p : Program) (ws : List Word) → pars
 unfolding map_rules rule_rows rows_read
 as_read text room p ws e m u = rw (process-read text 4096 p ws e, e, u) refl
 
-module _ {text rows cells starts sorts : List ℕ} {r : Resolved} {p : Program} (resolved : Resolves text rows cells starts sorts r p (understand p)) where
+module _ {text rows : List ℕ} {p : Program} where
   module _ (ws : List Word) (e : parse text ≡ got p ws) (old : List ℕ) where
-    pub read-wrong : (r.fault ≡ 0 → ⊥) → Maps (map_rules text (room_in old)) r.fault 0 old old
+    pub read-wrong : {cells starts sorts : List ℕ} {x : Refusal} → Resolves text rows cells starts sorts p (Err x) (understand p) → Maps (map_rules text (room_in old)) (fault_number x.fault) 0 old old
     unfolding map_of
-    read-wrong z = go (understand p) refl resolved
+    read-wrong {cells} {starts} {sorts} {x} resolved = go (understand p) refl resolved
       where
-        go : (m : Checked (List Rule)) → understand p ≡ m → Resolves text rows cells starts sorts r p m → Maps (map_rules text (room_in old)) r.fault 0 old old
-        go (good prog) u (meant q ready rowed) = absurd (z q)
-        go (wrong k w) u (mistaken q nonzero start len) =
+        go : (m : Checked (List Rule)) → understand p ≡ m → Resolves text rows cells starts sorts p (Err x) m → Maps (map_rules text (room_in old)) (fault_number x.fault) 0 old old
+        go (good prog) u y = elim y [ ]
+        go (wrong k w) u (mistaken q start len) =
             maps-refused (as_read text (room_in old) p ws e (wrong k w) u ∙ ap (map_of (rows_of p (declare_sections p p.sections nobody) (wrong k w)) (room_in old)) (checked-wrong text 4096 k w) ∙ ap refused (sym q)) refl
 
-    read-good : (prog : List Rule) → understand p ≡ good prog → (rowed : Rowed text rows r p)
+    read-good : {r : Resolved} (prog : List Rule) → understand p ≡ good prog → (rowed : Rowed text rows r p)
         → map_rules text (room_in old) ≡ map_of (rows_of p (good rowed.names) (good prog)) (room_in old) (answer_for text 4096 (meaning prog))
     read-good prog u rowed =
         as_read text (room_in old) p ws e (good prog) u ∙ ap (map_of (rows_of p (declare_sections p p.sections nobody) (good prog)) (room_in old)) (checked-good text 4096 prog)
         ∙ ap (λ n. map_of (rows_of p n (good prog)) (room_in old) (answer_for text 4096 (meaning prog))) rowed.known.declares
 
-    pub read-long : r.fault ≡ 0 → 4224 < r.cells → Maps (map_rules text (room_in old)) 20 0 old old
-    read-long z l =
-        let h = its-meaning resolved z in
+    pub read-long : {cells starts sorts : List ℕ} {r : Resolved} → Resolves text rows cells starts sorts p (Ok r) (understand p) → 4224 < r.cells → Maps (map_rules text (room_in old)) 20 0 old old
+    read-long resolved l =
+        let h = its-meaning resolved in
         maps-refused (read-good h.prog h.means h.rowed ∙ map-long text h.prog (rows_of p (good h.rowed.names) (good h.prog)) (room_in old) (too_long 4096 h.ready l)) refl
 
-    pub read_held : (z : r.fault ≡ 0) → r.cells ≤ 4224 → {number rules : ℕ} {new : List ℕ} → MapsHeld text rows r cells sorts old new number rules → Maps (map_rules text (room_in old)) number rules old new
-    read_held z l f = let h = its-meaning resolved z in rw (read-good h.prog h.means h.rowed) (f p h.prog (ready-cells h.ready l) h.rowed h.means)
+    pub read_held : {cells starts sorts : List ℕ} {r : Resolved} → Resolves text rows cells starts sorts p (Ok r) (understand p) → r.cells ≤ 4224 → {number rules : ℕ} {new : List ℕ} → MapsHeld text rows r cells sorts old new number rules → Maps (map_rules text (room_in old)) number rules old new
+    read_held resolved l f = let h = its-meaning resolved in rw (read-good h.prog h.means h.rowed) (f p h.prog (ready-cells h.ready l) h.rowed h.means)
 
-  pub its-place : r.fault ≡ 0 → Placed text rows r
-  its-place z =
-      let h = its-meaning resolved z in
+  pub its-place : {cells starts sorts : List ℕ} {r : Resolved} → Resolves text rows cells starts sorts p (Ok r) (understand p) → Placed text rows r
+  its-place resolved =
+      let h = its-meaning resolved in
       let all = all-understood p h.rowed.names h.rowed.known.declares h.prog h.means in
       record {
         holds = record { few = omega (arith, h.rowed.number, h.rowed.known.few); inside = inside h.rowed };

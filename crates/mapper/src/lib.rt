@@ -140,13 +140,15 @@ fn map_read(text: &[u8], out: &mut [u8]) -> Mapped
     let mut cells = [0u16; frontend::CELLS];
     let mut starts = [0u16; frontend::RULES];
     let mut sorts = [0u8; frontend::RULES];
-    let b = frontend::resolve(text, &mut rows, &mut cells, &mut starts, &mut sorts);
-    if b.fault != 0 {
-        return Mapped {
-            number: b.fault,
-            rules: 0,
-        };
-    }
+    let b = match frontend::resolve(text, &mut rows, &mut cells, &mut starts, &mut sorts) {
+        Ok(b) => b,
+        Err(e) => {
+            return Mapped {
+                number: u16::from(e.fault),
+                rules: 0,
+            };
+        }
+    };
     if frontend::CELLS < b.cells {
         return Mapped {
             number: base::TOO_SHORT,

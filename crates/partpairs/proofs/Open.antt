@@ -23,9 +23,7 @@ use Rattle.parts.proofs.Alike.{OneEach, nowhere, there, one_each_lem}
 use Rattle.parts.proofs.Pairs.{together-pairs}
 use Rattle.parts.proofs.Rules.{all-used}
 use Rattle.parts.specs.Objects.{one_each, open_rules, open_names, OpenRule, open_all, together}
-use Rattle.resolver.specs.Resolved.{Ends, ended, failed}
-use Rattle.resolver.specs.declared.Built.{Built}
-use Rattle.resolver.specs.declared.Done.{Done}
+use Rattle.resolver.specs.Resolved.{DoneTold, BuiltTold, Ends, ended, failed}
 use Rattle.symbols.specs.Rows.{held, number_of}
 use Rattle.syntax.specs.Texts.{Common}
 use Rattle.syntax.specs.Written as written
@@ -70,7 +68,7 @@ firsts-ordered ds seen (u ∷ us) h = go (is_used u seen) (firsts-ordered ds see
 
 -- Pairs with one level each
 
-rests : {B : Type 0} {E E' : Type 0} {text : List ℕ} {ws : List Word} {cs : List ℕ} {c : ℕ} {cs' : List ℕ} {cells_of : B → List ℕ} {P : B → Type 0} {r : Done} {x : Checked B}
+rests : {B : Type 0} {E E' : Type 0} {text : List ℕ} {ws : List Word} {cs : List ℕ} {c : ℕ} {cs' : List ℕ} {cells_of : B → List ℕ} {P : B → Type 0} {r : DoneTold} {x : Checked B}
     → (E' → E) → Ends E text ws cs c cs' cells_of P r x → Ends E' text ws cs c cs' cells_of P r x
 rests f (ended a b k d) = ended a b (λ e. k (f e)) d
 rests f (failed a b k d) = failed a b k d
@@ -96,7 +94,7 @@ module _ (c : Common) {names : Names} (rs : List written.Rule) {text rows : List
         ordered = rw e h.ordered;
       }
 
-  pub open-acts : {at : ℕ} {inside : Bool} {class : ℕ} {before some : Bool} {cs : List ℕ} {k : ℕ} {cs' : List ℕ} {r : Built}
+  pub open-acts : {at : ℕ} {inside : Bool} {class : ℕ} {before some : Bool} {cs : List ℕ} {k : ℕ} {cs' : List ℕ} {r : BuiltTold}
       → ActsDone text rows n at inside class before some cs k cs' r → OpenActs c names rs text rows n at inside class before some cs k cs' r
   unfolding open_names
   open-acts {inside = inside} {class} d = record {

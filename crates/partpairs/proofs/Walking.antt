@@ -27,7 +27,7 @@ use Rattle.partpairs.specs.Acts.{OpenActs}
 use Rattle.partpairs.specs.Numbers.{numbered}
 use Rattle.partpairs.specs.Pairing.{UseAt, UsesAt, count_of, Goes, Takes, again, added, full, UseDone, WordDone, PairsEnd, PairsFrom, Collected, PairsDone}
 use Rattle.parts.specs.Objects.{open_rules, OpenRule, open_all, together}
-use Rattle.resolver.specs.declared.Built.{Built}
+use Rattle.resolver.specs.Resolved.{BuiltTold}
 use Rattle.scanner.specs.Next.{Next, as_word}
 use Rattle.scanner.specs.declared.WordAt.{WordAt}
 use Rattle.symbols.proofs.Indexing.{index-after, index-set, held-behind}
@@ -243,7 +243,7 @@ pairs-open d ag seen {rs} {ws} {os} x e g = d.done rs ws x e (opens-ordered ag s
 
 -- actions that are resolved by the rows with the pairs, which hold the declarations as they were
 pub acts-after : (c : Common) {names : Names} (rs : List Rule) {text rows signs rows' signs' : List ℕ} {n own at₀ k at : ℕ} {inside : Bool} {class : ℕ} {before some : Bool} {cs : List ℕ} {count : ℕ}
-    {cs' : List ℕ} {r : Built} → n ≤ 512 → PairsDone text rows signs n own at₀ rows' signs' k
+    {cs' : List ℕ} {r : BuiltTold} → n ≤ 512 → PairsDone text rows signs n own at₀ rows' signs' k
     → Agrees (together c rs) names (open_rules c.listed rs) (held text rows n) → EntriesAt text (held text rows n) (entries_of (together c rs))
     → ActsDone text rows' n at inside class before some cs count cs' r → OpenActs c names rs text rows' n at inside class before some cs count cs' r
 acts-after c rs {text} {rows} {rows' = rows'} {n = n} few d ag en a =

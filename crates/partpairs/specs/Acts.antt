@@ -9,8 +9,7 @@ use Rattle.names.specs.Uses.{pairs_of}
 use Rattle.partpairs.specs.Numbers.{Numbered}
 use Rattle.parts.specs.Objects.{open_rules, open_names, together}
 use Rattle.program.specs.Past.{past_all, exits_all}
-use Rattle.resolver.specs.Resolved.{Ends, Flags}
-use Rattle.resolver.specs.declared.Built.{Built}
+use Rattle.resolver.specs.Resolved.{BuiltTold, Ends, Flags}
 use Rattle.symbols.specs.Rows.{held}
 use Rattle.syntax.specs.Texts.{Common}
 use Rattle.syntax.specs.Written as written
@@ -19,7 +18,7 @@ use Rattle.words.specs.Words.{Word, words_at}
 -- as `ActsDone` of crate builder, for the rules rs of a part of the common part c: the outcome is that of `open_rule`, and the cells rest on the part's
 -- pairs, which are numbered behind the names of rules
 pub record OpenActs (c : Common) (names : Names) (rs : List written.Rule) (text rows : List ℕ) (n at : ℕ) (inside : Bool) (class : ℕ) (before some : Bool) (cs : List ℕ)
-    (k : ℕ) (cs' : List ℕ) (r : Built)
+    (k : ℕ) (cs' : List ℕ) (r : BuiltTold)
     : Type 0 where
   pub kept : Kept text at cs cs' r.done
   pub done : (q : written.Acts) (ws : List Word) → ActsIn (words_at text at) ws q

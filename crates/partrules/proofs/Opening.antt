@@ -11,9 +11,8 @@ use Rattle.base.specs.Common.{given}
 use Rattle.builder.proofs.Heading.{word-length}
 use Rattle.builder.proofs.Laws.{ends-fails}
 use Rattle.builder.proofs.Ruling.{head-fails, head-then, ends-bind, valued-is, type-means}
-use Rattle.builder.specs.Heads.{TypeDone}
+use Rattle.builder.specs.Heads.{HeadTold, TypeDone}
 use Rattle.builder.specs.Parts.{place_of, ActsDone}
-use Rattle.builder.specs.declared.Head.{Head}
 use Rattle.cells.specs.Cells.{acts_cells}
 use Rattle.declarations.proofs.Rows.{given-mapped}
 use Rattle.declarations.specs.Decls.{Agrees, Decl, index_of, optional_in}
@@ -25,9 +24,7 @@ use Rattle.parts.specs.Objects.{OpenRule, calls_all, open_names, open_rule}
 use Rattle.places.proofs.Heres.{Same, took-here}
 use Rattle.program.specs.Past.{past_all}
 use Rattle.program.specs.Program as means
-use Rattle.resolver.specs.Resolved.{Appends, Ends, ended, failed}
-use Rattle.resolver.specs.declared.Built.{Built}
-use Rattle.resolver.specs.declared.Done.{Done}
+use Rattle.resolver.specs.Resolved.{DoneTold, BuiltTold, Appends, Ends, ended, failed}
 use Rattle.scanner.specs.Next.{Next}
 use Rattle.scanner.specs.declared.WordAt.{WordAt}
 use Rattle.symbols.specs.Rows.{held, gives_of}
@@ -57,7 +54,7 @@ open-means x ds before seen r A S =
 
 -- A test that finds a fault, or none
 
-module _ {B E : Type 0} {text : List ℕ} {ws : List Word} {cs : List ℕ} {c : ℕ} {cs' : List ℕ} {f : B → List ℕ} {P : B → Type 0} {d : Done} where
+module _ {B E : Type 0} {text : List ℕ} {ws : List Word} {cs : List ℕ} {c : ℕ} {cs' : List ℕ} {f : B → List ℕ} {P : B → Type 0} {d : DoneTold} where
   found : (t : Bool) (n : ℕ) (w : Word) (k : Unit {0} → Checked B) → t ≡ true → d.fault ≡ n → (n ≡ 0 → ⊥) → d.at ≡ w.start → d.len ≡ length w.text
       → Ends E text ws cs c cs' f P d (◌>>=◌ (fault_if t n w) k)
   found t n w k e e₁ nz e₂ e₃ = subst (λ b. Ends E text ws cs c cs' f P d (◌>>=◌ (fault_if b n w) k)) (sym e) (failed e₁ nz e₂ e₃)
@@ -71,7 +68,7 @@ named-so {text} {w} {v} ds seen t s e = ap (λ (u : Word). taken_by ds seen u.te
 
 -- Each way in which a rule is read
 
-pub open-taken : {text rows seen cs : List ℕ} {n at : ℕ} {t : Bool} {d : Done} {w : WordAt} → at ≤ length text → Next text at w
+pub open-taken : {text rows seen cs : List ℕ} {n at : ℕ} {t : Bool} {d : DoneTold} {w : WordAt} → at ≤ length text → Next text at w
     → t ≡ taken_by (held text rows n) seen (part text w.start w.len) → t ≡ true → d.fault ≡ 4 → d.at ≡ w.start → d.len ≡ w.len → RuleRead text rows n at seen cs cs d
 unfolding open_by
 open-taken {text} {rows} {seen} {cs} {n} {at} {t} {d} {w} inn N e q e₁ e₂ e₃ = record { same = refl; high = λ z. absurd (omega (arith, z, e₁)); done = go }
@@ -83,7 +80,7 @@ open-taken {text} {rows} {seen} {cs} {n} {at} {t} {d} {w} inn N e q e₁ e₂ e�
         found (taken_by (held text rows n) seen r.rule.text) 4 r.rule _ (named-so (held text rows n) seen t s e ∙ q) e₁ (λ z. omega (arith, z))
         (e₂ ∙ ap (λ (v : Word). v.start) (sym s.word)) (e₃ ∙ sym (word-length N inn) ∙ ap (λ (v : Word). length v.text) (sym s.word))
 
-pub open-typed : {text rows seen cs : List ℕ} {n at : ℕ} {t : Bool} {d : Done} {w : WordAt} {h : Head} → Next text at w
+pub open-typed : {text rows seen cs : List ℕ} {n at : ℕ} {t : Bool} {d : DoneTold} {w : WordAt} {h : HeadTold} → Next text at w
     → t ≡ taken_by (held text rows n) seen (part text w.start w.len) → t ≡ false → TypeDone text rows n w.next h → (h.fault ≡ 0 → ⊥)
     → d.fault ≡ h.fault → d.at ≡ h.at → d.len ≡ h.len → RuleRead text rows n at seen cs cs d
 unfolding open_by
@@ -96,7 +93,7 @@ open-typed {text} {rows} {seen} {cs} {n} {at} {t} {d} {w} {h} N e q T nz e₁ e�
         passed (taken_by (held text rows n) seen r.rule.text) 4 r.rule _ (named-so (held text rows n) seen t s e ∙ q)
         (head-fails (optional_in (held text rows n) (held text rows n) r.gives) _ (T.done r.gives colon ws₂ ws₃ (subst (λ l. GivesIn l ws₂ r.gives) s.behind g) u) nz e₁ e₂ e₃)
 
-pub open-fail : {text rows seen cs cs' : List ℕ} {n at : ℕ} {t : Bool} {w : WordAt} {h : Head} {b : Built} → Next text at w
+pub open-fail : {text rows seen cs cs' : List ℕ} {n at : ℕ} {t : Bool} {w : WordAt} {h : HeadTold} {b : BuiltTold} → Next text at w
     → t ≡ taken_by (held text rows n) seen (part text w.start w.len) → t ≡ false → TypeDone text rows n w.next h → h.fault ≡ 0
     → ActsDone text rows n h.at false h.class true false cs 0 cs' b → (b.done.fault ≡ 0 → ⊥) → RuleRead text rows n at seen cs cs' b.done
 unfolding open_by
@@ -112,7 +109,7 @@ open-fail {text} {rows} {seen} {cs} {cs'} {n} {at} {t} {w} {h} {b} N e q T z₁ 
         (H.acts.tells h.at h.class cs 0 cs' b B r.body ws₄ (subst (λ l. ActsIn l ws₄ r.body) here a)) nz))
 
 -- the semicolon reached or not
-closing : {E : Type 0} {text : List ℕ} {ws : List Word} {cs cs' : List ℕ} {d : Done} (r : written.Rule) (valued : Bool) (b : means.Acts) (t : Bool) → t ≡ (valued && past_all b)
+closing : {E : Type 0} {text : List ℕ} {ws : List Word} {cs cs' : List ℕ} {d : DoneTold} (r : written.Rule) (valued : Bool) (b : means.Acts) (t : Bool) → t ≡ (valued && past_all b)
     → (t ≡ true → (d.fault ≡ 8) × (d.at ≡ r.closing.start) × (d.len ≡ length r.closing.text))
     → (t ≡ false → (d.fault ≡ 0) × (ws ≡ words_at text d.at) × (E → Appends cs 0 (acts_cells b []) cs' d.count))
     → Ends E text ws cs 0 cs' (λ (o : OpenRule). acts_cells o.means.body []) (OpensAs r) d
@@ -124,7 +121,7 @@ closing {E} {text} {ws} {cs} {cs'} {d} r valued b t e yes' no' = go (valued && p
     go true q = let k = yes' q in failed k.0 (λ z. omega (arith, z)) k.1 k.2
     go false q = let k = no' q in ended k.0 k.1 k.2 (record { name = refl; gives = refl; calls = refl })
 
-pub open-closed : {text rows seen cs cs' : List ℕ} {n at : ℕ} {t u : Bool} {d : Done} {w v : WordAt} {h : Head} {b : Built} → Next text at w
+pub open-closed : {text rows seen cs cs' : List ℕ} {n at : ℕ} {t u : Bool} {d : DoneTold} {w v : WordAt} {h : HeadTold} {b : BuiltTold} → Next text at w
     → t ≡ taken_by (held text rows n) seen (part text w.start w.len) → t ≡ false → TypeDone text rows n w.next h → h.fault ≡ 0
     → ActsDone text rows n h.at false h.class true false cs 0 cs' b → b.done.fault ≡ 0 → Next text b.done.at v → u ≡ (ltb 0 h.class && b.past)
     → (u ≡ true → (d.fault ≡ 8) × (d.at ≡ v.start) × (d.len ≡ v.len)) → (u ≡ false → (d.fault ≡ 0) × (d.at ≡ v.next) × (d.count ≡ b.done.count))

@@ -22,8 +22,7 @@ use Rattle.partwriter.proofs.Putting.{puts_then, puts-same}
 use Rattle.partwriter.specs.Put.{Puts, back}
 use Rattle.places.proofs.Heres.{Same, took-here, kind-here}
 use Rattle.resolver.proofs.Appending.{appends-whole}
-use Rattle.resolver.specs.Resolved.{Ends, ended, failed}
-use Rattle.resolver.specs.declared.Done.{Done}
+use Rattle.resolver.specs.Resolved.{DoneTold, Ends, ended, failed}
 use Rattle.scanner.specs.Next.{Next}
 use Rattle.scanner.specs.declared.WordAt.{WordAt}
 use Rattle.symbols.specs.Rows.{held}
@@ -58,7 +57,7 @@ sound-marks x first o f s =
 
 -- One rule
 
-pub rule-fails : {text rows seen cs cs' object : List ℕ} {n first moved at c : ℕ} {d : Done} → RuleRead text rows n at seen cs cs' d → (d.fault ≡ 0 → ⊥) → RuleDone text rows n first moved at seen cs object c seen object d
+pub rule-fails : {text rows seen cs cs' object : List ℕ} {n first moved at c : ℕ} {d : DoneTold} → RuleRead text rows n at seen cs cs' d → (d.fault ≡ 0 → ⊥) → RuleDone text rows n first moved at seen cs object c seen object d
 rule-fails {text} {rows} {seen} {cs} {cs'} {object} {n} {first} {moved} {at} {c} {d} R nz = record { high = λ z. absurd (nz z); done = go }
   where
     pick : {ws : List Word} {x : Context} {r : written.Rule} {marks : Type 0} (m : Checked OpenRule) → Ends (x.sure ≡ true) text ws cs 0 cs' (λ o. acts_cells o.means.body []) (OpensAs r) d m
@@ -73,7 +72,7 @@ rule-fails {text} {rows} {seen} {cs} {cs'} {object} {n} {first} {moved} {at} {c}
         subst (λ m. RuleEnd text ws moved first x object c object (SeenAre (held text rows n) (r.rule.text ∷ before) seen) d m) (sym (open-means x (held text rows n) before seen r H.agrees S))
         (pick (open_by x (held text rows n) seen r) (R.done first x H r ws i))
 
-pub rule-writes : {text rows seen seen' cs object object' : List ℕ} (cs' : List ℕ) {n first moved at c : ℕ} (d : Done) {d₂ : Done} {w : WordAt} {size : ℕ} → n ≤ length seen → RuleRead text rows n at seen cs cs' d → d.fault ≡ 0
+pub rule-writes : {text rows seen seen' cs object object' : List ℕ} (cs' : List ℕ) {n first moved at c : ℕ} (d : DoneTold) {d₂ : DoneTold} {w : WordAt} {size : ℕ} → n ≤ length seen → RuleRead text rows n at seen cs cs' d → d.fault ≡ 0
     → size ≡ min d.count (length cs') → RulePut text at moved first (take size cs') object c object' d₂.count → Next text at w
     → seen' ≡ marking seen (index_of 7 (part text w.start w.len) 0 (held text rows n)) → d₂.fault ≡ 0 → d₂.at ≡ d.at → RuleDone text rows n first moved at seen cs object c seen' object' d₂
 rule-writes {text} {rows} {seen} {seen'} {cs} {object} {object'} cs' {n} {first} {moved} {at} {c} d {d₂} {w} {size} few R z l P N e f g = record { high = λ y. omega (arith, g, R.high z); done = go }
@@ -125,7 +124,7 @@ more-words : (aims : List Aim) (first moved : ℕ) (o : OpenRule) (os : List Ope
 unfolding rules_words move_opens
 more-words aims first moved o os = refl
 
-pub rules-fail : {text rows seen seen' cs object object' : List ℕ} {n first moved k at c : ℕ} {d : Done} {a : Rules} → RuleDone text rows n first moved at seen cs object c seen' object' d → (d.fault ≡ 0 → ⊥)
+pub rules-fail : {text rows seen seen' cs object object' : List ℕ} {n first moved k at c : ℕ} {d : DoneTold} {a : Rules} → RuleDone text rows n first moved at seen cs object c seen' object' d → (d.fault ≡ 0 → ⊥)
     → a.fault ≡ d.fault → a.at ≡ d.at → a.len ≡ d.len → RulesDone text rows n first moved k at (length cs) seen object c object' a
 unfolding open_all Each
 rules-fail {text} {rows} {seen} {seen'} {cs} {object} {object'} {n} {first} {moved} {k} {at} {c} {d} {a} R nz e₁ e₂ e₃ = record { done = go }
@@ -141,7 +140,7 @@ rules-fail {text} {rows} {seen} {seen'} {cs} {object} {object'} {n} {first} {mov
     go x H before S (r ∷ rs) ws (more_rules {ws₁ = ws₁} i _ _) q A = pick (open_rule x.program x.names x.known before r) _ (R.done x H before S r ws₁ i A.0)
     go x H before S [] ws x4 q A = elim x4 [ ]
 
-pub rules-last : {text rows seen seen' cs object object' : List ℕ} {n first moved k at c : ℕ} {d : Done} {w : WordAt} {a : Rules} → RuleDone text rows n first moved at seen cs object c seen' object' d → d.fault ≡ 0
+pub rules-last : {text rows seen seen' cs object object' : List ℕ} {n first moved k at c : ℕ} {d : DoneTold} {w : WordAt} {a : Rules} → RuleDone text rows n first moved at seen cs object c seen' object' d → d.fault ≡ 0
     → Next text d.at w → (w.kind ≡ 257 → ⊥) → a.fault ≡ 0 → a.rules ≡ k + 1 → a.count ≡ d.count → RulesDone text rows n first moved k at (length cs) seen object c object' a
 unfolding open_all Each
 rules-last {text} {rows} {seen} {seen'} {cs} {object} {object'} {n} {first} {moved} {k} {at} {c} {d} {w} {a} R z N nk e₁ e₂ e₃ = record { done = go }
@@ -161,7 +160,7 @@ rules-last {text} {rows} {seen} {seen'} {cs} {object} {object'} {n} {first} {mov
     go x H before S (r ∷ rs) ws (more_rules {ws₁ = ws₁} i t _) q A = no (open_rule x.program x.names x.known before r) (R.done x H before S r ws₁ i A.0) t
     go x H before S [] ws x4 q A = elim x4 [ ]
 
-pub rules-over : {text rows seen seen' cs object object' : List ℕ} {n first moved k at c : ℕ} {d : Done} {w : WordAt} {a : Rules} → RuleDone text rows n first moved at seen cs object c seen' object' d → d.fault ≡ 0
+pub rules-over : {text rows seen seen' cs object object' : List ℕ} {n first moved k at c : ℕ} {d : DoneTold} {w : WordAt} {a : Rules} → RuleDone text rows n first moved at seen cs object c seen' object' d → d.fault ≡ 0
     → Next text d.at w → w.kind ≡ 257 → k + 1 ≡ 128 → RulesDone text rows n first moved k at (length cs) seen object c object' a
 unfolding open_all Each
 rules-over {text} {rows} {seen} {seen'} {cs} {object} {object'} {n} {first} {moved} {k} {at} {c} {d} {w} {a} R z N e full = record { done = go }
@@ -180,7 +179,7 @@ rules-over {text} {rows} {seen} {seen'} {cs} {object} {object'} {n} {first} {mov
     go x H before S (r ∷ rs) ws (more_rules i _ more) q A = absurd (omega (arith, q, full, longer rs more))
     go x H before S [] ws x4 q A = elim x4 [ ]
 
-pub rules-next : {text rows seen seen' cs object object' object'' : List ℕ} {n first moved k at c : ℕ} {d : Done} {w : WordAt} {a : Rules} → RuleDone text rows n first moved at seen cs object c seen' object' d → d.fault ≡ 0
+pub rules-next : {text rows seen seen' cs object object' object'' : List ℕ} {n first moved k at c : ℕ} {d : DoneTold} {w : WordAt} {a : Rules} → RuleDone text rows n first moved at seen cs object c seen' object' d → d.fault ≡ 0
     → Next text d.at w → w.kind ≡ 257 → RulesDone text rows n first moved (k + 1) d.at (length cs) seen' object' d.count object'' a → RulesDone text rows n first moved k at (length cs) seen object c object'' a
 unfolding open_all Each
 rules-next {text} {rows} {seen} {seen'} {cs} {object} {object'} {object''} {n} {first} {moved} {k} {at} {c} {d} {w} {a} R z N e T = record { done = go }

@@ -1,8 +1,9 @@
 -- A rule of a part, resolved by itself, and what its words are: what is promised of one rule, and of the rules from one on.
-use Rattle.std.specs.Prelude.{Bool, true, false, ◌&&◌, ◌||◌, not, List, [], ◌∷◌, ◌++◌, ◌≡◌, ℕ, ◌+◌, ◌≤◌, eqb, length, get_or, set}
+use Rattle.std.specs.Prelude.{Result, Ok, Err, Bool, true, false, ◌&&◌, ◌||◌, not, List, [], ◌∷◌, ◌++◌, ◌≡◌, ℕ, ◌+◌, ◌≤◌, eqb, length, get_or, set}
 use Rattle.std.proofs.Math.Option.{Option, none, some}
 use Rattle.acceptance.proofs.Shape.{Each}
 use Rattle.base.specs.Common.{given}
+use Rattle.base.specs.declared.Refusal.{Refusal}
 use Rattle.builder.specs.Parts.{place_of, ActsDone}
 use Rattle.cells.specs.Cells.{acts_cells}
 use Rattle.declarations.specs.Decls.{Agrees, Decl, index_of, optional_in}
@@ -17,14 +18,13 @@ use Rattle.parts.specs.Objects.{Aim, head_aims, call_aims, use_aims, OpenRule, c
 use Rattle.parts.specs.Sound.{SoundRule}
 use Rattle.partwriter.specs.Put.{Puts, back}
 use Rattle.program.specs.Past.{past_all}
-use Rattle.resolver.specs.Resolved.{Ends}
-use Rattle.resolver.specs.declared.Built.{Built}
-use Rattle.resolver.specs.declared.Done.{Done}
+use Rattle.resolver.specs.Resolved.{read_told, fault_told, DoneTold, BuiltTold, Ends}
 use Rattle.symbols.specs.Rows.{held, gives_of}
 use Rattle.syntax.specs.Texts.{Head}
 use Rattle.syntax.specs.Written as written
 use Rattle.syntax.specs.Written.{Program}
 use Rattle.words.specs.Words.{Word, words_at}
+use Rattle.partrules.specs.declared.Read.{Read}
 use Rattle.partrules.specs.declared.Rules.{Rules}
 
 -- The names of the rules before
@@ -65,7 +65,7 @@ aims_in x = head_aims x.listed ++ (call_aims x.others ++ use_aims x.uses)
 
 -- that a rule's actions, as crate builder tells them, are those of a part, a pair being one open call
 pub record OpenActs (text rows : List ℕ) (n : ℕ) (x : Context) : Type 0 where
-  pub tells : (at class : ℕ) (cs : List ℕ) (c : ℕ) (cs' : List ℕ) (r : Built) → ActsDone text rows n at false class true false cs c cs' r
+  pub tells : (at class : ℕ) (cs : List ℕ) (c : ℕ) (cs' : List ℕ) (r : BuiltTold) → ActsDone text rows n at false class true false cs c cs' r
       → (q : written.Acts) (ws : List Word) → ActsIn (words_at text at) ws q
       → Ends (x.sure ≡ true) text ws cs c cs' (λ b. acts_cells b []) (λ b. r.past ≡ past_all b) r.done
       (acts_of x.program (open_names x.names) x.known q (place_of (held text rows n) false class))
@@ -99,21 +99,26 @@ pub record OpensAs (r : written.Rule) (o : OpenRule) : Type 0 where
   pub gives : o.gives ≡ r.gives
   pub calls : o.calls ≡ calls_all r.body
 
+-- the code's answer in numbers
+abbrev pub done_told : Result Read Refusal → DoneTold
+done_told (Ok r) = read_told r.at r.count
+done_told (Err e) = fault_told e
+
 -- the rule at the place `at` is read: its cells from the start on, or its fault
-pub record RuleRead (text rows : List ℕ) (n at : ℕ) (seen cs cs' : List ℕ) (d : Done) : Type 0 where
+pub record RuleRead (text rows : List ℕ) (n at : ℕ) (seen cs cs' : List ℕ) (d : DoneTold) : Type 0 where
   pub same : length cs' ≡ length cs
   pub high : d.fault ≡ 0 → d.at ≤ length text
   pub done : (first : ℕ) (x : Context) → Holds text rows n first x → (r : written.Rule) (ws : List Word) → RuleIn (words_at text at) ws r
       → Ends (x.sure ≡ true) text ws cs 0 cs' (λ o. acts_cells o.means.body []) (OpensAs r) d (open_by x (held text rows n) seen r)
 
 -- the code's answer tells an open rule, its words appended and its row marked; or the fault at its word
-pub data RuleEnd (text : List ℕ) (ws : List Word) (moved first : ℕ) (x : Context) (object : List ℕ) (c : ℕ) (object' : List ℕ) (marks : Type 0) (d : Done) : Checked OpenRule → Type 0 where
+pub data RuleEnd (text : List ℕ) (ws : List Word) (moved first : ℕ) (x : Context) (object : List ℕ) (c : ℕ) (object' : List ℕ) (marks : Type 0) (d : DoneTold) : Checked OpenRule → Type 0 where
   rule_made : {o : OpenRule} → d.fault ≡ 0 → ws ≡ words_at text d.at → (x.sure ≡ true → Puts object c (rule_words (aims_in x) first (move_open (back moved) o)) object' d.count) → marks
       → RuleEnd text ws moved first x object c object' marks d (good o)
   rule_faulty : {n : ℕ} {w : Word} → d.fault ≡ n → (n ≡ 0 → ⊥) → d.at ≡ w.start → d.len ≡ length w.text → RuleEnd text ws moved first x object c object' marks d (wrong n w)
 
 -- the rule at the place `at`
-pub record RuleDone (text rows : List ℕ) (n first moved at : ℕ) (seen cs object : List ℕ) (c : ℕ) (seen' object' : List ℕ) (d : Done) : Type 0 where
+pub record RuleDone (text rows : List ℕ) (n first moved at : ℕ) (seen cs object : List ℕ) (c : ℕ) (seen' object' : List ℕ) (d : DoneTold) : Type 0 where
   pub high : d.fault ≡ 0 → d.at ≤ length text
   pub done : (x : Context) → Holds text rows n first x → (before : List (List ℕ)) → SeenAre (held text rows n) before seen → (r : written.Rule) (ws : List Word) → RuleIn (words_at text at) ws r
       → Able (held text rows n) (length cs) x r

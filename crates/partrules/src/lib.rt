@@ -2,6 +2,8 @@
 #![tactic(auto)]
 
 ghost use Rattle.std.specs.Prelude.{List, [], ◌∷◌, ◌++◌, ◌≡◌, ℕ, ◌+◌, ◌*◌, ◌-◌, ◌<◌, ◌≤◌, length, take, drop, set, get_or, ◌&&◌, not, eqb, ltb};
+ghost use Rattle.base.specs.Faults.{fault_number};
+ghost use Rattle.resolver.specs.Resolved.{Faulted, fault_told};
 ghost use Rattle.declarations.specs.Decls.{index_of};
 ghost use Rattle.machine.specs.Bytes.{count};
 ghost use Rattle.symbols.specs.Index.{Kept};
@@ -11,10 +13,11 @@ ghost use Rattle.partwriter.specs.Put.{Puts};
 ghost use Rattle.words.specs.Words.{words_at};
 ghost use Rattle.partrules.specs.Calls.{call_by, calls_from, is_last, signs, called};
 ghost use Rattle.partrules.specs.Marks.{mark_by, turn_cells, Turned};
-ghost use Rattle.partrules.specs.Opened.{marked, marking, taken_by, RuleRead, RuleDone, RulesDone};
+ghost use Rattle.partrules.specs.Opened.{marked, marking, taken_by, done_told, RuleRead, RuleDone, RulesDone};
 ghost use Rattle.partrules.specs.Words.{TypePut, HeadPut, RulePut};
 
-use resolver::{Done, Scope};
+use base::{Fault, Refusal};
+use resolver::Scope;
 use scanner::WordAt;
 
 // Where a pass over cells stands: the last first cell, how many cells are left behind it, and what the last cell became.
@@ -41,6 +44,13 @@ pub struct Rules {
     pub len: usize,
     pub count: usize,
     pub rules: usize,
+}
+
+// A rule that was read up to the place `at`, and how many cells or words there are.
+#[derive(Clone, Copy, Debug, PartialEq, Eq)]
+pub struct Read {
+    pub at: usize,
+    pub count: usize,
 }
 
 // A place in the text, and how many words there are.
@@ -219,14 +229,13 @@ pub fn put_rule(
     put_marked(cells, part.first, object, f)
 }
 
-fn refused(fault: u16, at: usize, len: usize) -> Done
-    ensures { (result.fault ≡ fault) × (result.at ≡ at) × (result.len ≡ len) }
+fn refused(fault: Fault, w: WordAt) -> Refusal
+    ensures { Faulted (fault_number fault) w.start w.len (fault_told result) }
 {
-    Done {
+    Refusal {
         fault,
-        at,
-        len,
-        count: 0,
+        at: w.start,
+        len: w.len,
     }
 }
 
@@ -259,38 +268,36 @@ fn goes_past(class: usize, past: bool) -> bool
 }
 
 // The rule at the place `at`, resolved: its cells from the start on.
-fn read_rule(text: &[u8], rows: &[u16], n: usize, at: usize, seen: &[u8], cells: &mut [u16]) -> Done
+fn read_rule(
+    text: &[u8],
+    rows: &[u16],
+    n: usize,
+    at: usize,
+    seen: &[u8],
+    cells: &mut [u16],
+) -> Result<Read, Refusal>
     requires { (at ≤ length text.now) × Kept text.now rows.now n × (length seen.now ≤ 65536) }
-    ensures { RuleRead text.now rows.now n at seen.now cells.old cells.new result }
+    ensures { RuleRead text.now rows.now n at seen.now cells.old cells.new (done_told result) }
 {
     let w = scanner::next_word(text, at);
     if is_taken(text, rows, n, seen, w) {
-        return refused(base::REPEATED, w.start, w.len);
+        return Err(refused(Fault::Repeated, w));
     }
-    let h = builder::read_type(text, rows, n, w.next);
-    if h.fault != 0 {
-        return refused(h.fault, h.at, h.len);
-    }
+    let h = builder::read_type(text, rows, n, w.next)?;
     let scope = Scope {
         n,
         inside: false,
         class: h.class,
     };
-    let b = builder::build_actions(text, rows, scope, h.at, cells, 0);
-    let d = b.done;
-    if d.fault != 0 {
-        return d;
-    }
-    let s = scanner::next_word(text, d.at);
+    let b = builder::build_actions(text, rows, scope, h.at, cells, 0)?;
+    let s = scanner::next_word(text, b.at);
     if goes_past(h.class, b.past) {
-        return refused(base::WRONG_RETURN, s.start, s.len);
+        return Err(refused(Fault::WrongReturn, s));
     }
-    Done {
-        fault: 0,
+    Ok(Read {
         at: s.next,
-        len: 0,
-        count: d.count,
-    }
+        count: b.count,
+    })
 }
 
 // The row of the rule of the name w is marked.
@@ -314,42 +321,34 @@ pub fn open_rule(
     seen: &mut [u8],
     cells: &mut [u16],
     object: &mut [u8],
-) -> Done
+) -> Result<Read, Refusal>
     requires { (spot.at ≤ length text.now) × (length text.now < 65536) × Kept text.now rows.now part.n × (part.n ≤ length seen.old) × (length seen.old ≤ 65536) × (length cells.old < 65536) × (0 < part.first) }
-    ensures { RuleDone text.now rows.now part.n part.first part.moved spot.at seen.old cells.old object.old spot.count seen.new object.new result }
+    ensures { RuleDone text.now rows.now part.n part.first part.moved spot.at seen.old cells.old object.old spot.count seen.new object.new (done_told result) }
 {
     let at = spot.at;
-    let d = read_rule(text, rows, part.n, at, seen, cells);
-    if d.fault != 0 {
-        return d;
-    }
+    let d = read_rule(text, rows, part.n, at, seen, cells)?;
     let size = d.count.min(cells.len());
     let c = put_rule(text, at, part, &cells[..size], object, spot.count);
     let w = scanner::next_word(text, at);
     mark(text, rows, part.n, w, seen);
-    Done {
-        fault: 0,
-        at: d.at,
-        len: 0,
-        count: c,
-    }
+    Ok(Read { at: d.at, count: c })
 }
 
 // The rules
 
-fn failed(d: Done) -> Rules
-    ensures { (result.fault ≡ d.fault) × (result.at ≡ d.at) × (result.len ≡ d.len) }
+fn failed(e: Refusal) -> Rules
+    ensures { (result.fault ≡ fault_number e.fault) × (result.at ≡ e.at) × (result.len ≡ e.len) }
 {
     Rules {
-        fault: d.fault,
-        at: d.at,
-        len: d.len,
+        fault: u16::from(e.fault),
+        at: e.at,
+        len: e.len,
         count: 0,
         rules: 0,
     }
 }
 
-fn finished(d: Done, rules: usize) -> Rules
+fn finished(d: Read, rules: usize) -> Rules
     ensures { (result.fault ≡ 0) × (result.rules ≡ rules) × (result.count ≡ d.count) }
 {
     Rules {
@@ -378,17 +377,21 @@ pub fn open_rules(
     let mut k: usize = 0;
     // no range: what is read says where the next begins
     loop {
-        let d = open_rule(text, rows, part, here, seen, cells, object);
-        if d.fault != 0 {
-            return failed(d);
-        }
+        let d = match open_rule(text, rows, part, here, seen, cells, object) {
+            Ok(d) => d,
+            Err(e) => return failed(e),
+        };
         let next = k + 1;
         let w = scanner::next_word(text, d.at);
         if w.kind != words::NAME {
             return finished(d, next);
         }
         if next == base::RULES {
-            return failed(refused(base::NOT_ALLOWED, d.at, 0));
+            return failed(Refusal {
+                fault: Fault::NotAllowed,
+                at: d.at,
+                len: 0,
+            });
         }
         here.at = d.at;
         here.count = d.count;

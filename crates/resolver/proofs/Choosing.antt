@@ -18,9 +18,8 @@ use Rattle.resolver.proofs.Appending.{appends-length}
 use Rattle.resolver.proofs.Looking.{looks-good, looks-wrong, row-about, rule-about, after-good}
 use Rattle.resolver.proofs.Outcomes.{by-operation-missing, by-operation-update, by-operation-rest, by-rule-missing, by-rule-procedure, by-rule-rest}
 use Rattle.resolver.proofs.Rests.{Fails, ends_by, fail-ends, fails-here, fails-after, parameter-fails, parameter-good, parameter-words}
-use Rattle.resolver.specs.declared.Selected.{Selected}
-use Rattle.resolver.specs.Parts.{ParameterTold, Lies, NameIn, if_there, operation_cells, ParameterDone, Chose, Balked, SelectorEnds, ChoiceDone, by_rule_of, by_operation_of, chooses_of}
-use Rattle.resolver.specs.Resolved.{Appends, ended, SelectorDone}
+use Rattle.resolver.specs.Parts.{ParameterTold, Lies, NameIn, if_there, operation_cells, ParameterDone, Chose, SelectorEnds, ChoiceDone, by_rule_of, by_operation_of, chooses_of}
+use Rattle.resolver.specs.Resolved.{Faulted, SelectedTold, Appends, ended, SelectorDone}
 use Rattle.scanner.specs.Next.{Next, as_word}
 use Rattle.scanner.specs.declared.WordAt.{WordAt}
 use Rattle.symbols.proofs.Numbered.{Numbered}
@@ -37,13 +36,13 @@ record Picks (text rows : List ℕ) (n : ℕ) (ws : List Word) (cs : List ℕ) (
   pub cells : Appends cs c (selector_cells value []) cs' k
   pub absent : a ≡ absent_cell value
 
-pick_ends : {E : Type 0} {text rows cs cs' : List ℕ} {ws : List Word} {n c i k t a : ℕ} {r : Selected} {m : Checked Chooses} → Chose i k t a r → Picks text rows n ws cs c cs' i k t a m → SelectorEnds E text rows n ws cs c cs' r m
+pick_ends : {E : Type 0} {text rows cs cs' : List ℕ} {ws : List Word} {n c i k t a : ℕ} {r : SelectedTold} {m : Checked Chooses} → Chose i k t a r → Picks text rows n ws cs c cs' i k t a m → SelectorEnds E text rows n ws cs c cs' r m
 pick_ends {E} {text} {rows} {cs} {cs'} {ws} {n} {c} {i} {k} {t} {a} {r} h e =
     let q : Appends cs c (selector_cells e.value []) cs' r.done.count = rw h.count e.cells in
     rw e.is (ended h.fault (e.words ∙ ap (words_at text) (sym h.at)) (λ _. q) (ap (λ (x : ℕ). knowns_in x (held text rows n)) (sym h.class), h.absent ∙ e.absent))
 
 module _ {A : Type 0} {In : List Word → List Word → A → Type 0} {outcome : Program → Names → List KnownRule → A → Checked Chooses} {text rows : List ℕ} {n from : ℕ} {cs : List ℕ} {c : ℕ} where
-  balks : {r : Selected} {f i l : ℕ} → Balked f i l r → (f ≡ 0 → ⊥)
+  balks : {r : SelectedTold} {f i l : ℕ} → Faulted f i l r.done → (f ≡ 0 → ⊥)
       → ((p : Program) (names : Names) (rs : List KnownRule) → Agrees p names rs (held text rows n) → (a : A) (ws : List Word) → In (words_at text from) ws a → Fails f i l (outcome p names rs a))
       → ChoiceDone In outcome text rows n from cs c cs r
   balks h z k = record {
@@ -53,7 +52,7 @@ module _ {A : Type 0} {In : List Word → List Word → A → Type 0} {outcome :
     done = λ p names rs ag a ws t. fail-ends h.fault h.at h.len z (k p names rs ag a ws t);
   }
 
-  picks : {r : Selected} {i k u b : ℕ} {cs' : List ℕ} → Chose i k u b r → from ≤ i → i ≤ length text → length cs' ≡ length cs
+  picks : {r : SelectedTold} {i k u b : ℕ} {cs' : List ℕ} → Chose i k u b r → from ≤ i → i ≤ length text → length cs' ≡ length cs
       → ((p : Program) (names : Names) (rs : List KnownRule) → Agrees p names rs (held text rows n) → (a : A) (ws : List Word) → In (words_at text from) ws a
       → Picks text rows n ws cs c cs' i k u b (outcome p names rs a)) → ChoiceDone In outcome text rows n from cs c cs' r
   picks h lo hi s k = record {
@@ -65,14 +64,14 @@ module _ {A : Type 0} {In : List Word → List Word → A → Type 0} {outcome :
 
 -- A choice rule
 
-module _ {text rows : List ℕ} {n at fl row : ℕ} {cs : List ℕ} {c : ℕ} {r : Selected} (w : WordAt) (h : Next text at w) (inside : at ≤ length text)
+module _ {text rows : List ℕ} {n at fl row : ℕ} {cs : List ℕ} {c : ℕ} {r : SelectedTold} (w : WordAt) (h : Next text at w) (inside : at ≤ length text)
     (looks : Numbered fl row (rule_in (held text rows n) (as_word text w))) where
-  pub rule-balks : (fl ≡ 0 → ⊥) → Balked fl w.start w.len r → ChoiceDone NameIn by_rule_of text rows n at cs c cs r
+  pub rule-balks : (fl ≡ 0 → ⊥) → Faulted fl w.start w.len r.done → ChoiceDone NameIn by_rule_of text rows n at cs c cs r
   rule-balks z s = balks s z (λ p names rs ag u ws t.
       fails-here text w (h.inside inside) (ap (by_rule_of p names rs) (took-here text at 257 w u ws (omega arith) h t).word
       ∙ by-rule-missing text rows n ag (as_word text w) fl (looks-wrong (rule-about (held text rows n) (as_word text w)) looks z)))
 
-  pub rule-procedure : fl ≡ 0 → row < n → get_or rows (8 * row + 7) 0 ≡ 0 → Balked 5 w.start w.len r → ChoiceDone NameIn by_rule_of text rows n at cs c cs r
+  pub rule-procedure : fl ≡ 0 → row < n → get_or rows (8 * row + 7) 0 ≡ 0 → Faulted 5 w.start w.len r.done → ChoiceDone NameIn by_rule_of text rows n at cs c cs r
   rule-procedure z b y s = balks s (λ e. omega arith) (λ p names rs ag u ws t.
       fails-here text w (h.inside inside) (ap (by_rule_of p names rs) (took-here text at 257 w u ws (omega arith) h t).word
       ∙ by-rule-procedure text rows n ag (as_word text w) row b (looks-good looks z) y))
@@ -103,9 +102,9 @@ unfolding absent_cell
 choosing-absent op none = refl
 choosing-absent op (some v) = refl
 
-module _ {text rows : List ℕ} {n : ℕ} {cs : List ℕ} {c : ℕ} {r : Selected} {q : ParameterTold} (row class : ℕ) (w : WordAt)
+module _ {text rows : List ℕ} {n : ℕ} {cs : List ℕ} {c : ℕ} {r : SelectedTold} {q : ParameterTold} (row class : ℕ) (w : WordAt)
     (d : ParameterDone text rows n w.next (as_word text w) (members_of (held text rows n) (decl_at text rows row).second) q) where
-  pub with-balks : (q.fault ≡ 0 → ⊥) → Balked q.fault q.at q.len r → ChoiceDone ConstantIn (chooses_of text rows n row (as_word text w) class) text rows n w.next cs c cs r
+  pub with-balks : (q.fault ≡ 0 → ⊥) → Faulted q.fault q.at q.len r.done → ChoiceDone ConstantIn (chooses_of text rows n row (as_word text w) class) text rows n w.next cs c cs r
   with-balks x s = balks s x (λ p names rs ag o ws t. fails-after (λ v. good (record { by = choosing (decl_at text rows row).value v; labels = knowns_in class (held text rows n) })) (parameter-fails (d.done p names rs ag o ws t) x))
 
   pub with-picks : {cs' : List ℕ} {k : ℕ} → q.fault ≡ 0 → Appends cs c (operation_cells (get_or rows (8 * row + 1) 0) q.there q.value) cs' k → Chose q.at k class 12 r
@@ -119,12 +118,12 @@ module _ {text rows : List ℕ} {n : ℕ} {cs : List ℕ} {c : ℕ} {r : Selecte
     absent = choosing-absent (get_or rows (8 * row + 1) 0) (if_there q.there q.value);
   })
 
-module _ {text rows : List ℕ} {n fl row : ℕ} {cs : List ℕ} {c : ℕ} {r : Selected} (w : WordAt) (lies : Lies text w) (looks : Numbered fl row (operation_in (held text rows n) (as_word text w))) where
-  pub operation-balks : (fl ≡ 0 → ⊥) → Balked fl w.start w.len r → ChoiceDone ConstantIn (λ p names rs. by_operation_of p names rs (as_word text w)) text rows n w.next cs c cs r
+module _ {text rows : List ℕ} {n fl row : ℕ} {cs : List ℕ} {c : ℕ} {r : SelectedTold} (w : WordAt) (lies : Lies text w) (looks : Numbered fl row (operation_in (held text rows n) (as_word text w))) where
+  pub operation-balks : (fl ≡ 0 → ⊥) → Faulted fl w.start w.len r.done → ChoiceDone ConstantIn (λ p names rs. by_operation_of p names rs (as_word text w)) text rows n w.next cs c cs r
   operation-balks z s = balks s z (λ p names rs ag o ws t.
       fails-here text w lies.inside (by-operation-missing text rows n ag (as_word text w) o fl (looks-wrong (row-about 6 (held text rows n) (as_word text w)) looks z)))
 
-  pub operation-update : fl ≡ 0 → row < n → get_or rows (8 * row + 7) 0 ≡ 0 → Balked 5 w.start w.len r
+  pub operation-update : fl ≡ 0 → row < n → get_or rows (8 * row + 7) 0 ≡ 0 → Faulted 5 w.start w.len r.done
       → ChoiceDone ConstantIn (λ p names rs. by_operation_of p names rs (as_word text w)) text rows n w.next cs c cs r
   operation-update z b y s = balks s (λ e. omega arith) (λ p names rs ag o ws t.
       fails-here text w lies.inside (by-operation-update text rows n ag (as_word text w) o row b (looks-good looks z) y))
@@ -142,7 +141,7 @@ module _ {text rows : List ℕ} {n fl row : ℕ} {cs : List ℕ} {c : ℕ} {r : 
 
 -- By the first word
 
-module _ {text rows : List ℕ} {n at : ℕ} {cs cs' : List ℕ} {c : ℕ} {r : Selected} (w : WordAt) (h : Next text at w) where
+module _ {text rows : List ℕ} {n at : ℕ} {cs cs' : List ℕ} {c : ℕ} {r : SelectedTold} (w : WordAt) (h : Next text at w) where
   pub selector-rule : w.kind ≡ 64 → ChoiceDone NameIn by_rule_of text rows n w.next cs c cs' r → SelectorDone text rows n at cs c cs' r
   selector-rule z d = record { same = d.same; low = λ f. omega (arith, d.low f, h.onto); high = d.high; done = λ p names rs ag s ws t. go p names rs ag s ws t }
     where

@@ -22,9 +22,8 @@ use Rattle.names.specs.Resolve.{labels_of}
 use Rattle.places.proofs.Heres.{took-here, took-kind, not-here, reference-kind, reference-here}
 use Rattle.resolver.proofs.Looking.{looks-good, looks-wrong, lookup-about, after-good, after-wrong}
 use Rattle.resolver.proofs.Rests.{Fails, fails-here, fails-after, fails_by}
-use Rattle.resolver.specs.declared.Labels.{Labels}
 use Rattle.resolver.specs.Parts.{LabelTold, Mislabel, label_of, LabelEnds, named, unnamed, LabelDone}
-use Rattle.resolver.specs.Resolved.{LabelsEnd, labelled, mislabelled, LabelsDone}
+use Rattle.resolver.specs.Resolved.{LabelsTold, LabelsEnd, labelled, mislabelled, LabelsDone}
 use Rattle.scanner.specs.Next.{Next, as_word}
 use Rattle.scanner.specs.declared.WordAt.{WordAt}
 use Rattle.symbols.proofs.Numbered.{Numbered}
@@ -168,21 +167,21 @@ labels-first {p} {names} {rs} {ds} ag class w ls old sl same =
     go (good v) = ap (λ (b : Bool). ◌>>=◌ (fault_if b 6 w) (λ _. others p names rs ls (knowns_in class ds) old v)) (same v) ∙ inner (member v sl) v
     go (wrong n u) = refl
 
-labels-by : {text : List ℕ} {ws : List Word} {seen seen' : List ℕ} {used : ℕ} {r : Labels} {m m' : Checked (List ℕ)} → m ≡ m' → LabelsEnd text ws seen used seen' r m' → LabelsEnd text ws seen used seen' r m
+labels-by : {text : List ℕ} {ws : List Word} {seen seen' : List ℕ} {used : ℕ} {r : LabelsTold} {m m' : Checked (List ℕ)} → m ≡ m' → LabelsEnd text ws seen used seen' r m' → LabelsEnd text ws seen used seen' r m
 labels-by e t = rw e t
 
-labels-fail : {text : List ℕ} {ws : List Word} {seen seen' : List ℕ} {used f i l : ℕ} {r : Labels} {m : Checked (List ℕ)} → r.fault ≡ f → r.at ≡ i → r.len ≡ l → (f ≡ 0 → ⊥) → Fails f i l m → LabelsEnd text ws seen used seen' r m
+labels-fail : {text : List ℕ} {ws : List Word} {seen seen' : List ℕ} {used f i l : ℕ} {r : LabelsTold} {m : Checked (List ℕ)} → r.fault ≡ f → r.at ≡ i → r.len ≡ l → (f ≡ 0 → ⊥) → Fails f i l m → LabelsEnd text ws seen used seen' r m
 labels-fail p q o z e = rw e.is (mislabelled p z (q ∙ e.at) (o ∙ e.len))
 
 -- one label before those that were read
-labels-extend : {text : List ℕ} {ws : List Word} {seen seen' : List ℕ} {used : ℕ} {r : Labels} {m : Checked (List ℕ)} (v : ℕ) → used < length seen
+labels-extend : {text : List ℕ} {ws : List Word} {seen seen' : List ℕ} {used : ℕ} {r : LabelsTold} {m : Checked (List ℕ)} (v : ℕ) → used < length seen
     → LabelsEnd text ws (set seen used v) (used + 1) seen' r m → LabelsEnd text ws seen used seen' r (◌>>=◌ m (λ more. good (v ∷ more)))
 labels-extend {seen = seen} {seen'} {used} {r} v h (labelled {vs} f s u t) =
     let e : take (used + 1) (set seen used v) ≡ take used seen ++ (v ∷ []) = ap (λ (k : ℕ). take k (set seen used v)) (add-one used) ∙ take-suc-set seen used v h in
     labelled {vs = v ∷ vs} f s (omega (arith, u)) (t ∙ ap (λ (l : List ℕ). l ++ vs) e ∙ append_assoc (take used seen) (v ∷ []) vs)
 labels-extend v h (mislabelled f z a l) = mislabelled f z a l
 
-module _ {text rows : List ℕ} {n at class used : ℕ} {seen : List ℕ} {l : LabelTold} {r : Labels} (d : LabelDone text rows n at class seen used l) where
+module _ {text rows : List ℕ} {n at class used : ℕ} {seen : List ℕ} {l : LabelTold} {r : LabelsTold} (d : LabelDone text rows n at class seen used l) where
   pub labels-stop : (l.fault ≡ 0 → ⊥) → r.fault ≡ l.fault → r.at ≡ l.at → r.len ≡ l.len → LabelsDone text rows n at class seen used seen r
   labels-stop z f a b = record {
     same = refl;

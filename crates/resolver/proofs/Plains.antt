@@ -17,9 +17,8 @@ use Rattle.program.specs.Past.{plain_past, is_exit}
 use Rattle.program.specs.Program.{emit, error}
 use Rattle.resolver.proofs.Outcomes.{emit-is, error-is}
 use Rattle.resolver.proofs.Rests.{ends_by}
-use Rattle.resolver.specs.declared.Built.{Built}
 use Rattle.resolver.specs.Parts.{Lies, PlainEnds, RestDone, NothingIn, ReferenceIn, NameIn, valued, Sends, named_of, call_of, any_of, exit_of, RankedIn, ranked_words, by_rank}
-use Rattle.resolver.specs.Resolved.{PlainDone}
+use Rattle.resolver.specs.Resolved.{BuiltTold, PlainDone}
 use Rattle.scanner.specs.Next.{Next, as_word}
 use Rattle.scanner.specs.declared.WordAt.{WordAt}
 use Rattle.symbols.specs.Rows.{held, gives_of}
@@ -31,7 +30,7 @@ pub lies-here : {text : List ℕ} {at : ℕ} {w : WordAt} → Next text at w →
 lies-here h q = record { inside = h.inside q; high = h.high q }
 
 -- what stands behind the first word w, for each kind that it may have
-record Arms (text rows : List ℕ) (n class : ℕ) (inside : Bool) (cs : List ℕ) (c : ℕ) (cs' : List ℕ) (r : Built) (w : WordAt) : Type 0 where
+record Arms (text rows : List ℕ) (n class : ℕ) (inside : Bool) (cs : List ℕ) (c : ℕ) (cs' : List ℕ) (r : BuiltTold) (w : WordAt) : Type 0 where
   pub on-name : w.kind ≡ 257 → RestDone ConstantIn (λ p names rs. named_of p names rs (as_word text w)) text rows n w.next cs c cs' r
   pub on-string : w.kind ≡ 259 → RestDone ConstantIn (λ p names rs. named_of p names rs (as_word text w)) text rows n w.next cs c cs' r
   pub on-any : w.kind ≡ 63 → RestDone NothingIn any_of text rows n w.next cs c cs' r
@@ -42,7 +41,7 @@ record Arms (text rows : List ℕ) (n class : ℕ) (inside : Bool) (cs : List �
   pub on-give : w.kind ≡ 256 → RestDone ValueIn (λ p names rs. give_of p names rs (gives_of (held text rows n) class) (as_word text w)) text rows n w.next cs c cs' r
   pub on-ranked : w.kind ≡ 94 → RestDone RankedIn (by_rank (as_word text w)) text rows n w.next cs c cs' r
 
-module _ {text rows : List ℕ} {n at : ℕ} {cs cs' : List ℕ} {c : ℕ} {r : Built} (class : ℕ) (inside : Bool) (w : WordAt) (h : Next text at w) where
+module _ {text rows : List ℕ} {n at : ℕ} {cs cs' : List ℕ} {c : ℕ} {r : BuiltTold} (class : ℕ) (inside : Bool) (w : WordAt) (h : Next text at w) where
   -- a derivation goes by the kind of the first word
   by_first : Arms text rows n class inside cs c cs' r w → (p : Program) (names : Names) (rs : List KnownRule) → Agrees p names rs (held text rows n) → (a : written.Plain) (ws : List Word) → PlainIn (words_at text at) ws a
       → PlainEnds (PairsAre text rows n p names) text ws cs c cs' r (plain_of p names rs (record { inside = inside; gives = gives_of (held text rows n) class }) a)

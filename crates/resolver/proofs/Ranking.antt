@@ -20,9 +20,8 @@ use Rattle.resolver.proofs.Appending.{appends-length, appends-same}
 use Rattle.resolver.proofs.Looking.{looks-good, looks-wrong, row-about, row-index, rule-about, rule-index}
 use Rattle.resolver.proofs.Outcomes.{ranked-nowhere, ranked-missing, ranked-valued, ranked-rule}
 use Rattle.resolver.proofs.Rests.{ends_by, fails-here, stops}
-use Rattle.resolver.specs.declared.Built.{Built}
-use Rattle.resolver.specs.Parts.{Lies, Went, Stopped, RestDone, RankedIn, ranked_words, by_rank}
-use Rattle.resolver.specs.Resolved.{Appends, ended}
+use Rattle.resolver.specs.Parts.{Lies, Went, RestDone, RankedIn, ranked_words, by_rank}
+use Rattle.resolver.specs.Resolved.{BuiltTold, Faulted, Appends, ended}
 use Rattle.scanner.specs.Next.{Next, as_word}
 use Rattle.scanner.specs.declared.WordAt.{WordAt}
 use Rattle.symbols.proofs.Numbered.{Numbered}
@@ -69,20 +68,20 @@ lowest-held {text} {rows} {n} {p} {names} are u i j a b =
 counted : {cs cs' xs : List ℕ} {c l l' : ℕ} → l' ≡ l → Appends cs c xs cs' l → Appends cs c xs cs' l'
 counted e q = rw e q
 
-module _ {text rows : List ℕ} {n fs i : ℕ} {cs : List ℕ} {c : ℕ} {r : Built} (w s : WordAt) (lies : Lies text w) (h : Next text w.next s)
+module _ {text rows : List ℕ} {n fs i : ℕ} {cs : List ℕ} {c : ℕ} {r : BuiltTold} (w s : WordAt) (lies : Lies text w) (h : Next text w.next s)
     (section : Numbered fs i (operators_row (held text rows n) (as_word text s))) where
-  pub ranked-stops : (fs ≡ 0 → ⊥) → Stopped fs s.start s.len r → RestDone RankedIn (by_rank (as_word text w)) text rows n w.next cs c cs r
+  pub ranked-stops : (fs ≡ 0 → ⊥) → Faulted fs s.start s.len r.done → RestDone RankedIn (by_rank (as_word text w)) text rows n w.next cs c cs r
   ranked-stops z q = stops q z (λ p names rs ag x ws t.
       fails-here text s (h.inside lies.high) (ap (λ u. ranked_of p names rs (as_word text w) u x.1) (section-word s x h t)
       ∙ ranked-nowhere text rows n ag (as_word text w) (as_word text s) x.1 fs (looks-wrong (row-about 600 (held text rows n) (as_word text s)) section z)))
 
   module _ {fo row : ℕ} (a o : WordAt) (k : Next text s.next a) (m : Next text a.next o) (operand : Numbered fo row (rule_in (held text rows n) (as_word text o))) (z : fs ≡ 0) where
-    pub operand-stops : (fo ≡ 0 → ⊥) → Stopped fo o.start o.len r → RestDone RankedIn (by_rank (as_word text w)) text rows n w.next cs c cs r
+    pub operand-stops : (fo ≡ 0 → ⊥) → Faulted fo o.start o.len r.done → RestDone RankedIn (by_rank (as_word text w)) text rows n w.next cs c cs r
     operand-stops y q = stops q y (λ p names rs ag x ws t.
         fails-here text o (inside-o w s a o lies h k m) (words w s a o lies h k m p names rs x t
         ∙ ranked-missing text rows n ag (as_word text w) (as_word text s) (as_word text o) i fo (looks-good section z) (looks-wrong (rule-about (held text rows n) (as_word text o)) operand y)))
 
-    pub operand-chooses : fo ≡ 0 → row < n → (get_or rows (8 * row + 7) 0 ≡ 0 → ⊥) → Stopped 5 o.start o.len r → RestDone RankedIn (by_rank (as_word text w)) text rows n w.next cs c cs r
+    pub operand-chooses : fo ≡ 0 → row < n → (get_or rows (8 * row + 7) 0 ≡ 0 → ⊥) → Faulted 5 o.start o.len r.done → RestDone RankedIn (by_rank (as_word text w)) text rows n w.next cs c cs r
     operand-chooses e b y q = stops q (λ e. omega arith) (λ p names rs ag x ws t.
         fails-here text o (inside-o w s a o lies h k m) (words w s a o lies h k m p names rs x t
         ∙ ranked-valued text rows n ag (as_word text w) (as_word text s) (as_word text o) i row (looks-good section z) b (looks-good operand e) y))

@@ -21,10 +21,8 @@ use Rattle.program.specs.Program.{Plain, match, any, exit, call, back, give}
 use Rattle.resolver.proofs.Looking.{looks-good, looks-wrong, after-good, after-wrong, lookup-about, row-about, rule-about, gives_none, gives_some}
 use Rattle.resolver.proofs.Outcomes.{give-is, parameter-is, named-token, named_other, update-missing, update-choice, update-rest, call-missing, call-valued, call-rule, second_none, second-some}
 use Rattle.resolver.proofs.Appending.{appends-length}
-use Rattle.resolver.specs.declared.Built.{Built}
-use Rattle.resolver.specs.declared.Done.{Done}
-use Rattle.resolver.specs.Parts.{ParameterTold, Lies, Went, Stopped, Misfit, PlainEnds, RestDone, NothingIn, ReferenceIn, NameIn, valued, Sends, named_of, call_of, any_of, exit_of, if_there, operation_cells, ParameterEnds, supplied, refused, ValueDone, ParameterDone}
-use Rattle.resolver.specs.Resolved.{Appends, Ends, ended, failed}
+use Rattle.resolver.specs.Parts.{ParameterTold, Lies, Went, Misfit, PlainEnds, RestDone, NothingIn, ReferenceIn, NameIn, valued, Sends, named_of, call_of, any_of, exit_of, if_there, operation_cells, ParameterEnds, supplied, refused, ValueDone, ParameterDone}
+use Rattle.resolver.specs.Resolved.{BuiltTold, DoneTold, Faulted, Appends, Ends, ended, failed}
 use Rattle.scanner.specs.Next.{Next, as_word}
 use Rattle.scanner.specs.declared.WordAt.{WordAt}
 use Rattle.symbols.proofs.Numbered.{Numbered}
@@ -56,11 +54,11 @@ pub fails_by : {A : Type 0} {m m' : Checked A} {f i l : ℕ} → m ≡ m' → Fa
 fails_by q e = record { word = e.word; is = q ∙ e.is; at = e.at; len = e.len }
 
 -- the same outcome
-pub ends_by : {B E : Type 0} {text cs cs' : List ℕ} {ws : List Word} {c : ℕ} {cells_of : B → List ℕ} {P : B → Type 0} {r : Done} {m m' : Checked B} → m ≡ m'
+pub ends_by : {B E : Type 0} {text cs cs' : List ℕ} {ws : List Word} {c : ℕ} {cells_of : B → List ℕ} {P : B → Type 0} {r : DoneTold} {m m' : Checked B} → m ≡ m'
     → Ends E text ws cs c cs' cells_of P r m' → Ends E text ws cs c cs' cells_of P r m
 ends_by e t = rw e t
 
-pub fail-ends : {B E : Type 0} {text cs cs' : List ℕ} {ws : List Word} {c f i l : ℕ} {cells_of : B → List ℕ} {P : B → Type 0} {r : Done} {m : Checked B} → r.fault ≡ f → r.at ≡ i → r.len ≡ l
+pub fail-ends : {B E : Type 0} {text cs cs' : List ℕ} {ws : List Word} {c f i l : ℕ} {cells_of : B → List ℕ} {P : B → Type 0} {r : DoneTold} {m : Checked B} → r.fault ≡ f → r.at ≡ i → r.len ≡ l
     → (f ≡ 0 → ⊥) → Fails f i l m → Ends E text ws cs c cs' cells_of P r m
 fail-ends p q o z e = rw e.is (failed p z (q ∙ e.at) (o ∙ e.len))
 
@@ -75,13 +73,13 @@ pub record Goes (text : List ℕ) (ws : List Word) (cs : List ℕ) (c : ℕ) (cs
   pub past : b ≡ plain_past value
   pub exits : false ≡ is_exit value
 
-pub go-ends : {E : Type 0} {text cs cs' : List ℕ} {ws : List Word} {c i k : ℕ} {b : Bool} {r : Built} {m : Checked Plain} → Went i k b r → Goes text ws cs c cs' i k b m → PlainEnds E text ws cs c cs' r m
+pub go-ends : {E : Type 0} {text cs cs' : List ℕ} {ws : List Word} {c i k : ℕ} {b : Bool} {r : BuiltTold} {m : Checked Plain} → Went i k b r → Goes text ws cs c cs' i k b m → PlainEnds E text ws cs c cs' r m
 go-ends {E} {text} {cs} {cs'} {ws} {c} {i} {k} {b} {r} h e =
     let q : Appends cs c (plain_cells e.value []) cs' r.done.count = rw h.count e.cells in
     rw e.is (ended h.fault (e.words ∙ ap (words_at text) (sym h.at)) (λ _. q) (h.past ∙ e.past, h.exits ∙ e.exits))
 
 module _ {A : Type 0} {In : List Word → List Word → A → Type 0} {outcome : Program → Names → List KnownRule → A → Checked Plain} {text rows : List ℕ} {n from : ℕ} {cs : List ℕ} {c : ℕ} where
-  pub stops : {r : Built} {f i l : ℕ} → Stopped f i l r → (f ≡ 0 → ⊥)
+  pub stops : {r : BuiltTold} {f i l : ℕ} → Faulted f i l r.done → (f ≡ 0 → ⊥)
       → ((p : Program) (names : Names) (rs : List KnownRule) → Agrees p names rs (held text rows n) → (a : A) (ws : List Word) → In (words_at text from) ws a → Fails f i l (outcome p names rs a))
       → RestDone In outcome text rows n from cs c cs r
   stops h z k = record {
@@ -91,7 +89,7 @@ module _ {A : Type 0} {In : List Word → List Word → A → Type 0} {outcome :
     done = λ p names rs ag a ws t. fail-ends h.fault h.at h.len z (k p names rs ag a ws t);
   }
 
-  pub goes : {r : Built} {i k : ℕ} {b : Bool} {cs' : List ℕ} → Went i k b r → from ≤ i → i ≤ length text → length cs' ≡ length cs
+  pub goes : {r : BuiltTold} {i k : ℕ} {b : Bool} {cs' : List ℕ} → Went i k b r → from ≤ i → i ≤ length text → length cs' ≡ length cs
       → ((p : Program) (names : Names) (rs : List KnownRule) → Agrees p names rs (held text rows n) → (a : A) (ws : List Word) → In (words_at text from) ws a
       → Goes text ws cs c cs' i k b (outcome p names rs a)) → RestDone In outcome text rows n from cs c cs' r
   goes h lo hi s k = record {
@@ -102,7 +100,7 @@ module _ {A : Type 0} {In : List Word → List Word → A → Type 0} {outcome :
   }
 
 -- another outcome that is the same
-pub rest-by : {A : Type 0} {In : List Word → List Word → A → Type 0} {one other : Program → Names → List KnownRule → A → Checked Plain} {text rows : List ℕ} {n from : ℕ} {cs cs' : List ℕ} {c : ℕ} {r : Built}
+pub rest-by : {A : Type 0} {In : List Word → List Word → A → Type 0} {one other : Program → Names → List KnownRule → A → Checked Plain} {text rows : List ℕ} {n from : ℕ} {cs cs' : List ℕ} {c : ℕ} {r : BuiltTold}
     → ((p : Program) (names : Names) (rs : List KnownRule) → Agrees p names rs (held text rows n) → (a : A) → other p names rs a ≡ one p names rs a)
     → RestDone In one text rows n from cs c cs' r → RestDone In other text rows n from cs c cs' r
 rest-by q h = record {
@@ -114,9 +112,9 @@ rest-by q h = record {
 
 -- A value of a class
 
-module _ {text rows : List ℕ} {n at fl v : ℕ} {cs : List ℕ} {c : ℕ} {r : Built} (class : ℕ) (f : ℕ → Plain) (w : WordAt) (h : Next text at w) (inside : at ≤ length text)
+module _ {text rows : List ℕ} {n at fl v : ℕ} {cs : List ℕ} {c : ℕ} {r : BuiltTold} (class : ℕ) (f : ℕ → Plain) (w : WordAt) (h : Next text at w) (inside : at ≤ length text)
     (looks : Numbered fl v (lookup_in (held text rows n) class (as_word text w))) where
-  pub sent-stops : (fl ≡ 0 → ⊥) → Stopped fl w.start w.len r → RestDone ReferenceIn (λ p names rs u. valued f (lookup_in (held text rows n) class u)) text rows n at cs c cs r
+  pub sent-stops : (fl ≡ 0 → ⊥) → Faulted fl w.start w.len r.done → RestDone ReferenceIn (λ p names rs u. valued f (lookup_in (held text rows n) class u)) text rows n at cs c cs r
   sent-stops z s = stops s z (λ p names rs ag a ws t.
       let q : a ≡ as_word text w = (reference-here text at w a ws h t).word in
       fails-here text w (h.inside inside) (ap (λ u. valued f (lookup_in (held text rows n) class u)) q ∙ after-wrong (λ v. good (f v)) fl (as_word text w) (looks-wrong (lookup-about (held text rows n) class (as_word text w)) looks z)))
@@ -259,8 +257,8 @@ module _ {text rows : List ℕ} {n : ℕ} {r : ParameterTold} (row : ℕ) (w k :
 
 -- A token to match
 
-module _ {text : List ℕ} {at : ℕ} {cs : List ℕ} {c : ℕ} {r : Built} (rows : List ℕ) (n v : ℕ) (k : WordAt) (inside : at ≤ length text) (h : Next text at k) where
-  pub match-stops : k.kind ≡ 40 → Stopped 5 k.start k.len r → RestDone ConstantIn (λ p names rs. match_of p names rs v) text rows n at cs c cs r
+module _ {text : List ℕ} {at : ℕ} {cs : List ℕ} {c : ℕ} {r : BuiltTold} (rows : List ℕ) (n v : ℕ) (k : WordAt) (inside : at ≤ length text) (h : Next text at k) where
+  pub match-stops : k.kind ≡ 40 → Faulted 5 k.start k.len r.done → RestDone ConstantIn (λ p names rs. match_of p names rs v) text rows n at cs c cs r
   unfolding match_of
   match-stops z s = stops s (λ e. omega arith) go
     where
@@ -297,20 +295,20 @@ unfolding is_exit
 updating-stays op none = refl
 updating-stays op (some v) = refl
 
-module _ {text rows : List ℕ} {n fl row : ℕ} {cs : List ℕ} {c : ℕ} {r : Built} (w : WordAt) (lies : Lies text w) (looks : Numbered fl row (operation_in (held text rows n) (as_word text w))) where
-  pub update-stops : (fl ≡ 0 → ⊥) → Stopped fl w.start w.len r
+module _ {text rows : List ℕ} {n fl row : ℕ} {cs : List ℕ} {c : ℕ} {r : BuiltTold} (w : WordAt) (lies : Lies text w) (looks : Numbered fl row (operation_in (held text rows n) (as_word text w))) where
+  pub update-stops : (fl ≡ 0 → ⊥) → Faulted fl w.start w.len r.done
       → RestDone ConstantIn (λ p names rs. update_of p names rs (as_word text w)) text rows n w.next cs c cs r
   update-stops z s = stops s z (λ p names rs ag d ws t.
       fails-here text w lies.inside (update-missing text rows n ag (as_word text w) d fl (looks-wrong (row-about 6 (held text rows n) (as_word text w)) looks z)))
 
-  pub update-chooses : fl ≡ 0 → row < n → (get_or rows (8 * row + 7) 0 ≡ 0 → ⊥) → Stopped 5 w.start w.len r
+  pub update-chooses : fl ≡ 0 → row < n → (get_or rows (8 * row + 7) 0 ≡ 0 → ⊥) → Faulted 5 w.start w.len r.done
       → RestDone ConstantIn (λ p names rs. update_of p names rs (as_word text w)) text rows n w.next cs c cs r
   update-chooses z b y s = stops s (λ e. omega arith) (λ p names rs ag d ws t.
       fails-here text w lies.inside (update-choice text rows n ag (as_word text w) d row b (looks-good looks z) y))
 
   module _ {q : ParameterTold} (z : fl ≡ 0) (b : row < n) (y : get_or rows (8 * row + 7) 0 ≡ 0)
       (d : ParameterDone text rows n w.next (as_word text w) (members_of (held text rows n) (decl_at text rows row).second) q) where
-    pub update-misfits : (q.fault ≡ 0 → ⊥) → Stopped q.fault q.at q.len r
+    pub update-misfits : (q.fault ≡ 0 → ⊥) → Faulted q.fault q.at q.len r.done
         → RestDone ConstantIn (λ p names rs. update_of p names rs (as_word text w)) text rows n w.next cs c cs r
     update-misfits x s = stops s x (λ p names rs ag o ws t.
         fails_by (update-rest text rows n ag (as_word text w) o row b (looks-good looks z) y)
@@ -331,7 +329,7 @@ module _ {text rows : List ℕ} {n fl row : ℕ} {cs : List ℕ} {c : ℕ} {r : 
 
 -- A token or an operation
 
-module _ {text rows : List ℕ} {n : ℕ} {cs cs' : List ℕ} {c : ℕ} {r : Built} (w : WordAt) where
+module _ {text rows : List ℕ} {n : ℕ} {cs cs' : List ℕ} {c : ℕ} {r : BuiltTold} (w : WordAt) where
   pub named-matches : {v : ℕ} → Some v ≡ answer_of (find (as_word text w).text (knowns_in 1 (held text rows n))) → RestDone ConstantIn (λ p names rs. match_of p names rs v) text rows n w.next cs c cs' r
       → RestDone ConstantIn (λ p names rs. named_of p names rs (as_word text w)) text rows n w.next cs c cs' r
   named-matches {v} h d = rest-by (λ p names rs ag o. named-token text rows n ag (as_word text w) o v (answer-some _ h)) d
@@ -342,14 +340,14 @@ module _ {text rows : List ℕ} {n : ℕ} {cs cs' : List ℕ} {c : ℕ} {r : Bui
 
 -- A call
 
-module _ {text rows : List ℕ} {n at fl row : ℕ} {cs : List ℕ} {c : ℕ} {r : Built} (w : WordAt) (h : Next text at w) (inside : at ≤ length text)
+module _ {text rows : List ℕ} {n at fl row : ℕ} {cs : List ℕ} {c : ℕ} {r : BuiltTold} (w : WordAt) (h : Next text at w) (inside : at ≤ length text)
     (looks : Numbered fl row (rule_in (held text rows n) (as_word text w))) where
-  pub call-stops : (fl ≡ 0 → ⊥) → Stopped fl w.start w.len r → RestDone NameIn call_of text rows n at cs c cs r
+  pub call-stops : (fl ≡ 0 → ⊥) → Faulted fl w.start w.len r.done → RestDone NameIn call_of text rows n at cs c cs r
   call-stops z s = stops s z (λ p names rs ag u ws t.
       fails-here text w (h.inside inside) (ap (call_of p names rs) (took-here text at 257 w u ws (omega arith) h t).word
       ∙ call-missing text rows n ag (as_word text w) fl (looks-wrong (rule-about (held text rows n) (as_word text w)) looks z)))
 
-  pub call-chooses : fl ≡ 0 → row < n → (get_or rows (8 * row + 7) 0 ≡ 0 → ⊥) → Stopped 5 w.start w.len r → RestDone NameIn call_of text rows n at cs c cs r
+  pub call-chooses : fl ≡ 0 → row < n → (get_or rows (8 * row + 7) 0 ≡ 0 → ⊥) → Faulted 5 w.start w.len r.done → RestDone NameIn call_of text rows n at cs c cs r
   call-chooses z b y s = stops s (λ e. omega arith) (λ p names rs ag u ws t.
       fails-here text w (h.inside inside) (ap (call_of p names rs) (took-here text at 257 w u ws (omega arith) h t).word
       ∙ call-valued text rows n ag (as_word text w) row b (looks-good looks z) y))
@@ -381,8 +379,8 @@ no-reference {text} {at} {v} {u} {ws} h a b t = go (reference-kind text at v u w
     go (inl e) = a e
     go (inr e) = b e
 
-module _ {text rows : List ℕ} {n : ℕ} {cs : List ℕ} {c : ℕ} {r : Built} (class : ℕ) (w v : WordAt) (lies : Lies text w) (h : Next text w.next v) where
-  pub value-in-procedure : class ≡ 0 → Stopped 8 v.start v.len r
+module _ {text rows : List ℕ} {n : ℕ} {cs : List ℕ} {c : ℕ} {r : BuiltTold} (class : ℕ) (w v : WordAt) (lies : Lies text w) (h : Next text w.next v) where
+  pub value-in-procedure : class ≡ 0 → Faulted 8 v.start v.len r.done
       → RestDone ReferenceIn (λ p names rs u. give_of p names rs (gives_of (held text rows n) class) (as_word text w) (some u)) text rows n w.next cs c cs r
   unfolding give_of
   value-in-procedure z s = stops s (λ e. omega arith) (λ p names rs ag u ws t.
@@ -404,7 +402,7 @@ module _ {text rows : List ℕ} {n : ℕ} {cs : List ℕ} {c : ℕ} {r : Built} 
       go p names rs ag none ws (no_value a b e) = absurd (none_of k a b)
       go p names rs ag (some u) ws (one_value t) = d.done p names rs ag u ws t
 
-  pub give-missing : (v.kind ≡ 257 → ⊥) → (v.kind ≡ 259 → ⊥) → (class ≡ 0 → ⊥) → Stopped 8 w.start w.len r
+  pub give-missing : (v.kind ≡ 257 → ⊥) → (v.kind ≡ 259 → ⊥) → (class ≡ 0 → ⊥) → Faulted 8 w.start w.len r.done
       → RestDone ValueIn (λ p names rs. give_of p names rs (gives_of (held text rows n) class) (as_word text w)) text rows n w.next cs c cs r
   unfolding give_of
   give-missing a b z s = stops s (λ e. omega arith) go
@@ -431,7 +429,7 @@ module _ {text rows : List ℕ} {n : ℕ} {cs : List ℕ} {c : ℕ} {r : Built} 
       }
       go p names rs ag (some u) ws (one_value t) = absurd (no-reference h a b t)
 
-pub give-goes : {text rows : List ℕ} {n class : ℕ} {cs cs' : List ℕ} {c : ℕ} {r : Built} (w : WordAt) → (class ≡ 0 → ⊥)
+pub give-goes : {text rows : List ℕ} {n class : ℕ} {cs cs' : List ℕ} {c : ℕ} {r : BuiltTold} (w : WordAt) → (class ≡ 0 → ⊥)
     → RestDone ReferenceIn (λ p names rs u. valued give (lookup_in (held text rows n) class u)) text rows n w.next cs c cs' r
     → RestDone ReferenceIn (λ p names rs u. give_of p names rs (gives_of (held text rows n) class) (as_word text w) (some u)) text rows n w.next cs c cs' r
 give-goes {text} {rows} {n} {class} w z d =
@@ -439,12 +437,12 @@ give-goes {text} {rows} {n} {class} w z d =
 
 -- `?` and `>`
 
-pub any-goes : {text rows : List ℕ} {n : ℕ} {cs cs' : List ℕ} {c k : ℕ} {r : Built} (w : WordAt) → Lies text w → Appends cs c (4 ∷ []) cs' k → Went w.next k true r
+pub any-goes : {text rows : List ℕ} {n : ℕ} {cs cs' : List ℕ} {c k : ℕ} {r : BuiltTold} (w : WordAt) → Lies text w → Appends cs c (4 ∷ []) cs' k → Went w.next k true r
     → RestDone NothingIn any_of text rows n w.next cs c cs' r
 unfolding plain_cells plain_past is_exit
 any-goes w lies a g = goes g (omega arith) lies.high (appends-length a) (λ p names rs ag u ws t. record { value = any; is = refl; words = t; cells = a; past = refl; exits = refl })
 
-pub exit-goes : {text rows : List ℕ} {n : ℕ} {cs cs' : List ℕ} {c : ℕ} {r : Built} (b : Bool) (w : WordAt) → Lies text w → b ≡ true → Appends cs c (1 ∷ []) cs' r.done.count
+pub exit-goes : {text rows : List ℕ} {n : ℕ} {cs cs' : List ℕ} {c : ℕ} {r : BuiltTold} (b : Bool) (w : WordAt) → Lies text w → b ≡ true → Appends cs c (1 ∷ []) cs' r.done.count
     → r.done.fault ≡ 0 → r.done.at ≡ w.next → r.past ≡ false → r.exits ≡ true → RestDone NothingIn (exit_of b (as_word text w)) text rows n w.next cs c cs' r
 unfolding plain_cells plain_past is_exit
 exit-goes {text} {rows} {n} {cs} {cs'} {c} {r} b w lies e a f i past exits = record {
@@ -454,7 +452,7 @@ exit-goes {text} {rows} {n} {cs} {cs'} {c} {r} b w lies e a f i past exits = rec
   done = λ p names rs ag u ws t. ends_by (ap (λ (b : Bool). if b then good exit else wrong 7 (as_word text w)) e) (ended f (t ∙ ap (words_at text) (sym i)) (λ _. a) (past, exits));
 }
 
-pub exit-stops : {text rows : List ℕ} {n : ℕ} {cs : List ℕ} {c : ℕ} {r : Built} (b : Bool) (w : WordAt) → Lies text w → b ≡ false → Stopped 7 w.start w.len r
+pub exit-stops : {text rows : List ℕ} {n : ℕ} {cs : List ℕ} {c : ℕ} {r : BuiltTold} (b : Bool) (w : WordAt) → Lies text w → b ≡ false → Faulted 7 w.start w.len r.done
     → RestDone NothingIn (exit_of b (as_word text w)) text rows n w.next cs c cs r
 exit-stops {text} b w lies e s = stops s (λ z. omega arith) (λ p names rs ag u ws t.
     fails-here text w lies.inside (ap (λ (b : Bool). if b then good exit else wrong 7 (as_word text w)) e))

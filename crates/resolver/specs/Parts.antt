@@ -13,11 +13,9 @@ use Rattle.names.specs.Known.{Checked, good, wrong, ◌>>=◌, fault_if, Known, 
 use Rattle.names.specs.Resolve.{Place, Chooses, choosing, parameter_of, update_of, match_of, give_of, ranked_of, plain_of, selector_of}
 use Rattle.program.specs.Past.{plain_past, is_exit}
 use Rattle.program.specs.Program.{Plain, any, exit}
-use Rattle.resolver.specs.declared.Built.{Built}
 use Rattle.resolver.specs.declared.Label.{Label}
 use Rattle.resolver.specs.declared.Parameter.{Parameter}
-use Rattle.resolver.specs.declared.Selected.{Selected}
-use Rattle.resolver.specs.Resolved.{Ends, Flags}
+use Rattle.resolver.specs.Resolved.{BuiltTold, SelectedTold, Ends, Flags}
 use Rattle.scanner.specs.Next.{as_word}
 use Rattle.scanner.specs.declared.WordAt.{WordAt}
 use Rattle.symbols.specs.Rows.{held, decl_at, gives_of}
@@ -31,26 +29,20 @@ pub record Lies (text : List ℕ) (w : WordAt) : Type 0 where
   pub high : w.next ≤ length text
 
 -- an action that was read up to the place i, with k cells then
-pub record Went (i k : ℕ) (b : Bool) (r : Built) : Type 0 where
+pub record Went (i k : ℕ) (b : Bool) (r : BuiltTold) : Type 0 where
   pub fault : r.done.fault ≡ 0
   pub at : r.done.at ≡ i
   pub count : r.done.count ≡ k
   pub past : r.past ≡ b
   pub exits : r.exits ≡ false
 
--- a fault at a word: its number, its place, its length
-pub record Stopped (f i l : ℕ) (r : Built) : Type 0 where
-  pub fault : r.done.fault ≡ f
-  pub at : r.done.at ≡ i
-  pub len : r.done.len ≡ l
-
-abbrev pub PlainEnds : Type 0 → List ℕ → List Word → List ℕ → ℕ → List ℕ → Built → Checked Plain → Type 0
+abbrev pub PlainEnds : Type 0 → List ℕ → List Word → List ℕ → ℕ → List ℕ → BuiltTold → Checked Plain → Type 0
 PlainEnds E text ws cs c cs' r m =
     Ends E text ws cs c cs' (λ b. plain_cells b []) (λ b. Flags r.past r.exits (plain_past b) (is_exit b)) r.done m
 
 -- the rest of a plain action, from the place `from` on: `In` says which words it is read from, `outcome` what it comes to
 pub record RestDone {A : Type 0} (In : List Word → List Word → A → Type 0) (outcome : Program → Names → List KnownRule → A → Checked Plain)
-    (text rows : List ℕ) (n from : ℕ) (cs : List ℕ) (c : ℕ) (cs' : List ℕ) (r : Built) : Type 0 where
+    (text rows : List ℕ) (n from : ℕ) (cs : List ℕ) (c : ℕ) (cs' : List ℕ) (r : BuiltTold) : Type 0 where
   pub same : length cs' ≡ length cs
   pub low : r.done.fault ≡ 0 → from ≤ r.done.at
   pub high : r.done.fault ≡ 0 → r.done.at ≤ length text
@@ -103,35 +95,35 @@ by_rank s p names rs x = ranked_of p names rs s x.0 x.1
 
 -- the rest of each plain action, whose first word is w
 
-abbrev pub MatchDone : ℕ → List ℕ → List ℕ → ℕ → ℕ → List ℕ → ℕ → List ℕ → Built → Type 0
+abbrev pub MatchDone : ℕ → List ℕ → List ℕ → ℕ → ℕ → List ℕ → ℕ → List ℕ → BuiltTold → Type 0
 MatchDone v text rows n at cs c cs' r = RestDone ConstantIn (λ p names rs. match_of p names rs v) text rows n at cs c cs' r
 
-abbrev pub UpdateDone : WordAt → List ℕ → List ℕ → ℕ → List ℕ → ℕ → List ℕ → Built → Type 0
+abbrev pub UpdateDone : WordAt → List ℕ → List ℕ → ℕ → List ℕ → ℕ → List ℕ → BuiltTold → Type 0
 UpdateDone w text rows n cs c cs' r = RestDone ConstantIn (λ p names rs. update_of p names rs (as_word text w)) text rows n w.next cs c cs' r
 
-abbrev pub NamedDone : WordAt → List ℕ → List ℕ → ℕ → List ℕ → ℕ → List ℕ → Built → Type 0
+abbrev pub NamedDone : WordAt → List ℕ → List ℕ → ℕ → List ℕ → ℕ → List ℕ → BuiltTold → Type 0
 NamedDone w text rows n cs c cs' r = RestDone ConstantIn (λ p names rs. named_of p names rs (as_word text w)) text rows n w.next cs c cs' r
 
 -- a name or string of the class, of which f makes an action
-abbrev pub SentDone : (ℕ → Plain) → ℕ → List ℕ → List ℕ → ℕ → ℕ → List ℕ → ℕ → List ℕ → Built → Type 0
+abbrev pub SentDone : (ℕ → Plain) → ℕ → List ℕ → List ℕ → ℕ → ℕ → List ℕ → ℕ → List ℕ → BuiltTold → Type 0
 SentDone f class text rows n at cs c cs' r = RestDone ReferenceIn (λ p names rs u. valued f (lookup_in (held text rows n) class u)) text rows n at cs c cs' r
 
 -- `>>` with a value, in a rule that gives values of the class
-abbrev pub GivenDone : WordAt → ℕ → List ℕ → List ℕ → ℕ → List ℕ → ℕ → List ℕ → Built → Type 0
+abbrev pub GivenDone : WordAt → ℕ → List ℕ → List ℕ → ℕ → List ℕ → ℕ → List ℕ → BuiltTold → Type 0
 GivenDone w class text rows n cs c cs' r =
     RestDone ReferenceIn (λ p names rs v. give_of p names rs (gives_of (held text rows n) class) (as_word text w) (some v)) text rows n w.next cs c cs' r
 
-abbrev pub GiveDone : WordAt → ℕ → List ℕ → List ℕ → ℕ → List ℕ → ℕ → List ℕ → Built → Type 0
+abbrev pub GiveDone : WordAt → ℕ → List ℕ → List ℕ → ℕ → List ℕ → ℕ → List ℕ → BuiltTold → Type 0
 GiveDone w class text rows n cs c cs' r =
     RestDone ValueIn (λ p names rs. give_of p names rs (gives_of (held text rows n) class) (as_word text w)) text rows n w.next cs c cs' r
 
-abbrev pub AnyDone : WordAt → List ℕ → List ℕ → ℕ → List ℕ → ℕ → List ℕ → Built → Type 0
+abbrev pub AnyDone : WordAt → List ℕ → List ℕ → ℕ → List ℕ → ℕ → List ℕ → BuiltTold → Type 0
 AnyDone w text rows n cs c cs' r = RestDone NothingIn any_of text rows n w.next cs c cs' r
 
-abbrev pub ExitDone : WordAt → Bool → List ℕ → List ℕ → ℕ → List ℕ → ℕ → List ℕ → Built → Type 0
+abbrev pub ExitDone : WordAt → Bool → List ℕ → List ℕ → ℕ → List ℕ → ℕ → List ℕ → BuiltTold → Type 0
 ExitDone w inside text rows n cs c cs' r = RestDone NothingIn (exit_of inside (as_word text w)) text rows n w.next cs c cs' r
 
-abbrev pub RankedDone : WordAt → List ℕ → List ℕ → ℕ → List ℕ → ℕ → List ℕ → Built → Type 0
+abbrev pub RankedDone : WordAt → List ℕ → List ℕ → ℕ → List ℕ → ℕ → List ℕ → BuiltTold → Type 0
 RankedDone w text rows n cs c cs' r = RestDone RankedIn (by_rank (as_word text w)) text rows n w.next cs c cs' r
 
 -- Parameters
@@ -193,26 +185,20 @@ OperandDone w row text rows n r =
 -- Selectors
 
 -- a selector that was read up to the place i, with k cells then, labels of the class t and the cell a for no otherwise
-pub record Chose (i k t a : ℕ) (r : Selected) : Type 0 where
+pub record Chose (i k t a : ℕ) (r : SelectedTold) : Type 0 where
   pub fault : r.done.fault ≡ 0
   pub at : r.done.at ≡ i
   pub count : r.done.count ≡ k
   pub class : r.class ≡ t
   pub absent : r.absent ≡ a
 
--- a fault at a word
-pub record Balked (f i l : ℕ) (r : Selected) : Type 0 where
-  pub fault : r.done.fault ≡ f
-  pub at : r.done.at ≡ i
-  pub len : r.done.len ≡ l
-
-abbrev pub SelectorEnds : Type 0 → List ℕ → List ℕ → ℕ → List Word → List ℕ → ℕ → List ℕ → Selected → Checked Chooses → Type 0
+abbrev pub SelectorEnds : Type 0 → List ℕ → List ℕ → ℕ → List Word → List ℕ → ℕ → List ℕ → SelectedTold → Checked Chooses → Type 0
 SelectorEnds E text rows n ws cs c cs' r m = Ends E text ws cs c cs' (λ x. selector_cells x.by [])
     (λ x. (x.labels ≡ knowns_in r.class (held text rows n)) × (r.absent ≡ absent_cell x.by)) r.done m
 
 -- the rest of a selector, from the place `from` on
 pub record ChoiceDone {A : Type 0} (In : List Word → List Word → A → Type 0) (outcome : Program → Names → List KnownRule → A → Checked Chooses)
-    (text rows : List ℕ) (n from : ℕ) (cs : List ℕ) (c : ℕ) (cs' : List ℕ) (r : Selected) : Type 0 where
+    (text rows : List ℕ) (n from : ℕ) (cs : List ℕ) (c : ℕ) (cs' : List ℕ) (r : SelectedTold) : Type 0 where
   pub same : length cs' ≡ length cs
   pub low : r.done.fault ≡ 0 → from ≤ r.done.at
   pub high : r.done.fault ≡ 0 → r.done.at ≤ length text
@@ -232,10 +218,10 @@ chooses_of text rows n row w class p names rs c =
     (λ v. good (record { by = choosing (decl_at text rows row).value v; labels = knowns_in class (held text rows n) }))
 
 -- the rest of a selector whose first word is w
-abbrev pub WithDone : WordAt → ℕ → ℕ → List ℕ → List ℕ → ℕ → List ℕ → ℕ → List ℕ → Selected → Type 0
+abbrev pub WithDone : WordAt → ℕ → ℕ → List ℕ → List ℕ → ℕ → List ℕ → ℕ → List ℕ → SelectedTold → Type 0
 WithDone w row class text rows n cs c cs' r = ChoiceDone ConstantIn (chooses_of text rows n row (as_word text w) class) text rows n w.next cs c cs' r
 
-abbrev pub ByOperationDone : WordAt → List ℕ → List ℕ → ℕ → List ℕ → ℕ → List ℕ → Selected → Type 0
+abbrev pub ByOperationDone : WordAt → List ℕ → List ℕ → ℕ → List ℕ → ℕ → List ℕ → SelectedTold → Type 0
 ByOperationDone w text rows n cs c cs' r =
     ChoiceDone ConstantIn (λ p names rs. by_operation_of p names rs (as_word text w)) text rows n w.next cs c cs' r
 

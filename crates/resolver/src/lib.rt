@@ -1,14 +1,14 @@
 // The parts of a rule that hold no actions: plain actions, selectors and labels, resolved and appended as cells.
 #![tactic(auto)]
 
-ghost use Rattle.std.specs.Prelude.{◌≡◌, List, [], ◌∷◌, ℕ, ◌+◌, ◌*◌, ◌<◌, ◌≤◌, length, get_or, take, IfSome, is_some, unwrap_or};
+ghost use Rattle.std.specs.Prelude.{◌≡◌, List, [], ◌∷◌, ℕ, ◌+◌, ◌*◌, ◌<◌, ◌≤◌, length, get_or, take, IfSome, is_some, unwrap_or, Ok};
 ghost use Rattle.base.specs.Common.{member};
 ghost use Rattle.base.specs.Faults.{fault_number};
 ghost use Rattle.declarations.specs.Decls.{class_named};
 ghost use Rattle.program.specs.Program.{Plain, emit, error};
-ghost use Rattle.resolver.specs.Parts.{Lies, Went, Stopped, RestDone, NameIn, Sends, MatchDone, UpdateDone, NamedDone, SentDone, call_of, GivenDone, GiveDone, AnyDone, ExitDone, RankedDone};
-ghost use Rattle.resolver.specs.Parts.{operation_cells, parameter_told, label_told, ValueDone, OperandDone, Chose, Balked, ChoiceDone, by_rule_of, WithDone, ByOperationDone, LabelDone};
-ghost use Rattle.resolver.specs.Resolved.{Appends, PlainDone, SelectorDone, LabelsDone};
+ghost use Rattle.resolver.specs.Parts.{Lies, Went, RestDone, NameIn, Sends, MatchDone, UpdateDone, NamedDone, SentDone, call_of, GivenDone, GiveDone, AnyDone, ExitDone, RankedDone};
+ghost use Rattle.resolver.specs.Parts.{operation_cells, parameter_told, label_told, ValueDone, OperandDone, ChoiceDone, by_rule_of, WithDone, ByOperationDone, LabelDone};
+ghost use Rattle.resolver.specs.Resolved.{Appends, Faulted, fault_told, built_told, selected_told, labels_told, PlainDone, SelectorDone, LabelsDone};
 ghost use Rattle.scanner.specs.Next.{Next};
 ghost use Rattle.symbols.specs.Index.{Kept};
 ghost use Rattle.symbols.specs.Rows.{held};
@@ -18,7 +18,7 @@ use base::{Fault, Refusal};
 use scanner::WordAt;
 
 // Where an action stands: among n declarations, in a cycle or not, in a rule that gives values of the class (0: in a procedure rule).
-#[derive(Clone, Copy)]
+#[derive(Clone, Copy, Debug, PartialEq, Eq)]
 pub struct Scope {
     pub n: usize,
     pub inside: bool,
@@ -26,7 +26,7 @@ pub struct Scope {
 }
 
 // An action with a value: the value's class, the action's first cell, and whether it goes past itself.
-#[derive(Clone, Copy)]
+#[derive(Clone, Copy, Debug, PartialEq, Eq)]
 pub struct Sent {
     pub class: usize,
     pub first: u16,
@@ -34,43 +34,35 @@ pub struct Sent {
 }
 
 // A choice operation: its declaration, and the class of its answers.
-#[derive(Clone, Copy)]
+#[derive(Clone, Copy, Debug, PartialEq, Eq)]
 pub struct Asked {
     pub row: usize,
     pub class: usize,
 }
 
-// fault 0: read up to the place `at`, and there are `count` cells. Else the fault's number and its word.
-#[derive(Clone, Copy)]
-pub struct Done {
-    pub fault: u16,
-    pub at: usize,
-    pub len: usize,
-    pub count: usize,
-}
-
-// Actions: whether they go past themselves, and whether an exit in them leaves the cycle around them.
-#[derive(Clone, Copy)]
+// Actions that were read up to the place `at`: how many cells there are, whether the actions go past themselves, and whether an exit in
+// them leaves the cycle around them.
+#[derive(Clone, Copy, Debug, PartialEq, Eq)]
 pub struct Built {
-    pub done: Done,
+    pub at: usize,
+    pub count: usize,
     pub past: bool,
     pub exits: bool,
 }
 
-// A selector: the class of the labels, and the cell that stands for no otherwise.
-#[derive(Clone, Copy)]
+// A selector that was read up to the place `at`: how many cells there are, the class of the labels, and the cell that stands for no otherwise.
+#[derive(Clone, Copy, Debug, PartialEq, Eq)]
 pub struct Selected {
-    pub done: Done,
+    pub at: usize,
+    pub count: usize,
     pub class: usize,
     pub absent: u16,
 }
 
-// Labels: how many the choice has now.
-#[derive(Clone, Copy)]
+// Labels that were read up to the place `at`, and how many the choice has now.
+#[derive(Clone, Copy, Debug, PartialEq, Eq)]
 pub struct Labels {
-    pub fault: u16,
     pub at: usize,
-    pub len: usize,
     pub used: usize,
 }
 
@@ -130,7 +122,7 @@ fn put_operation(
 // Answers
 
 fn refused(fault: Fault, w: WordAt) -> Refusal
-    ensures { (result.fault ≡ fault) × (result.at ≡ w.start) × (result.len ≡ w.len) }
+    ensures { Faulted (fault_number fault) w.start w.len (fault_told result) }
 {
     Refusal {
         fault,
@@ -139,67 +131,15 @@ fn refused(fault: Fault, w: WordAt) -> Refusal
     }
 }
 
+// An action that was read up to the place `at` and is no exit.
 fn went(at: usize, count: usize, past: bool) -> Built
-    ensures { Went at count past result }
+    ensures { Went at count past (built_told (Ok result)) }
 {
-    let done = Done {
-        fault: 0,
-        at,
-        len: 0,
-        count,
-    };
     Built {
-        done,
+        at,
+        count,
         past,
         exits: false,
-    }
-}
-
-fn stopped(fault: Fault, at: usize, len: usize) -> Built
-    ensures { Stopped (fault_number fault) at len result }
-{
-    let done = Done {
-        fault: u16::from(fault),
-        at,
-        len,
-        count: 0,
-    };
-    Built {
-        done,
-        past: false,
-        exits: false,
-    }
-}
-
-fn chose(at: usize, count: usize, class: usize, absent: u16) -> Selected
-    ensures { Chose at count class absent result }
-{
-    let done = Done {
-        fault: 0,
-        at,
-        len: 0,
-        count,
-    };
-    Selected {
-        done,
-        class,
-        absent,
-    }
-}
-
-fn balked(fault: Fault, at: usize, len: usize) -> Selected
-    ensures { Balked (fault_number fault) at len result }
-{
-    let done = Done {
-        fault: u16::from(fault),
-        at,
-        len,
-        count: 0,
-    };
-    Selected {
-        done,
-        class: 0,
-        absent: 0,
     }
 }
 
@@ -273,16 +213,22 @@ fn parameter_of(
 // Plain actions
 
 // A token to match, and no constant behind it.
-fn resolve_match(text: &[u8], at: usize, v: usize, cells: &mut [u16], count: usize) -> Built
+fn resolve_match(
+    text: &[u8],
+    at: usize,
+    v: usize,
+    cells: &mut [u16],
+    count: usize,
+) -> Result<Built, Refusal>
     requires { (at ≤ length text.now) × (v < 65536) }
-    ensures { (rows : List ℕ) (n : ℕ) → MatchDone v text.now rows n at cells.old count cells.new result }
+    ensures { (rows : List ℕ) (n : ℕ) → MatchDone v text.now rows n at cells.old count cells.new (built_told result) }
 {
     let k = scanner::next_word(text, at);
     if k.kind == words::OPENING {
-        return stopped(Fault::NotWanted, k.start, k.len);
+        return Err(refused(Fault::NotWanted, k));
     }
     let c = put_two(cells, count, cells::MATCH, v);
-    went(at, c, true)
+    Ok(went(at, c, true))
 }
 
 // An update operation and its constant.
@@ -293,24 +239,21 @@ fn resolve_update(
     w: WordAt,
     cells: &mut [u16],
     count: usize,
-) -> Built
+) -> Result<Built, Refusal>
     requires { Lies text.now w × Kept text.now rows.now n }
-    ensures { UpdateDone w text.now rows.now n cells.old count cells.new result }
+    ensures { UpdateDone w text.now rows.now n cells.old count cells.new (built_told result) }
 {
     let row = match symbols::operation_of(text, rows, n, w.start, w.len) {
         Ok(row) => row,
-        Err(fault) => return stopped(fault, w.start, w.len),
+        Err(fault) => return Err(refused(fault, w)),
     };
     let chooses = base::number(rows, symbols::ROW * row + symbols::THIRD_LEN);
     if chooses != 0 {
-        return stopped(Fault::NotWanted, w.start, w.len);
+        return Err(refused(Fault::NotWanted, w));
     }
-    let p = match parameter_of(text, rows, n, row, w) {
-        Ok(p) => p,
-        Err(refusal) => return stopped(refusal.fault, refusal.at, refusal.len),
-    };
+    let p = parameter_of(text, rows, n, row, w)?;
     let c = put_operation(rows, row, p.value, cells, count);
-    went(p.at, c, true)
+    Ok(went(p.at, c, true))
 }
 
 // A name or a string that is an action: a token or an update operation.
@@ -321,9 +264,9 @@ fn resolve_named(
     w: WordAt,
     cells: &mut [u16],
     count: usize,
-) -> Built
+) -> Result<Built, Refusal>
     requires { Lies text.now w × Kept text.now rows.now n }
-    ensures { NamedDone w text.now rows.now n cells.old count cells.new result }
+    ensures { NamedDone w text.now rows.now n cells.old count cells.new (built_told result) }
 {
     match symbols::find_value(text, rows, n, symbols::INPUT, w.start, w.len) {
         Some(v) => resolve_match(text, w.next, v, cells, count),
@@ -340,17 +283,17 @@ fn resolve_sent(
     sent: Sent,
     cells: &mut [u16],
     count: usize,
-) -> Built
+) -> Result<Built, Refusal>
     requires { (at ≤ length text.now) × Kept text.now rows.now n }
-    ensures { (f : ℕ → Plain) → Sends sent.first sent.past f → SentDone f sent.class text.now rows.now n at cells.old count cells.new result }
+    ensures { (f : ℕ → Plain) → Sends sent.first sent.past f → SentDone f sent.class text.now rows.now n at cells.old count cells.new (built_told result) }
 {
     let w = scanner::next_word(text, at);
     let value = match symbols::value_of(text, rows, n, sent.class, w.start, w.len) {
         Ok(value) => value,
-        Err(fault) => return stopped(fault, w.start, w.len),
+        Err(fault) => return Err(refused(fault, w)),
     };
     let c = put_two(cells, count, sent.first, value);
-    went(w.next, c, sent.past)
+    Ok(went(w.next, c, sent.past))
 }
 
 // An output's name or string after `.`.
@@ -361,9 +304,9 @@ fn resolve_emit(
     at: usize,
     cells: &mut [u16],
     count: usize,
-) -> Built
+) -> Result<Built, Refusal>
     requires { (at ≤ length text.now) × Kept text.now rows.now n }
-    ensures { SentDone emit 2 text.now rows.now n at cells.old count cells.new result }
+    ensures { SentDone emit 2 text.now rows.now n at cells.old count cells.new (built_told result) }
 {
     let sent = Sent {
         class: symbols::OUTPUT,
@@ -381,9 +324,9 @@ fn resolve_error(
     at: usize,
     cells: &mut [u16],
     count: usize,
-) -> Built
+) -> Result<Built, Refusal>
     requires { (at ≤ length text.now) × Kept text.now rows.now n }
-    ensures { SentDone error 4 text.now rows.now n at cells.old count cells.new result }
+    ensures { SentDone error 4 text.now rows.now n at cells.old count cells.new (built_told result) }
 {
     let sent = Sent {
         class: symbols::ERROR,
@@ -401,22 +344,22 @@ fn resolve_call(
     at: usize,
     cells: &mut [u16],
     count: usize,
-) -> Built
+) -> Result<Built, Refusal>
     requires { (at ≤ length text.now) × Kept text.now rows.now n }
-    ensures { RestDone NameIn call_of text.now rows.now n at cells.old count cells.new result }
+    ensures { RestDone NameIn call_of text.now rows.now n at cells.old count cells.new (built_told result) }
 {
     let w = scanner::next_word(text, at);
     let row = match symbols::rule_of(text, rows, n, w.start, w.len) {
         Ok(row) => row,
-        Err(fault) => return stopped(fault, w.start, w.len),
+        Err(fault) => return Err(refused(fault, w)),
     };
     let gives = base::number(rows, symbols::ROW * row + symbols::THIRD_LEN);
     if gives != 0 {
-        return stopped(Fault::NotWanted, w.start, w.len);
+        return Err(refused(Fault::NotWanted, w));
     }
     let place = base::number(rows, symbols::ROW * row + symbols::VALUE);
     let c = put_two(cells, count, cells::CALL, place);
-    went(w.next, c, true)
+    Ok(went(w.next, c, true))
 }
 
 // A section's name and a procedure rule's after `^`, the word w: a call of the lowest rule that is made for the two.
@@ -427,28 +370,28 @@ fn resolve_ranked(
     w: WordAt,
     cells: &mut [u16],
     count: usize,
-) -> Built
+) -> Result<Built, Refusal>
     requires { Lies text.now w × Kept text.now rows.now n }
-    ensures { RankedDone w text.now rows.now n cells.old count cells.new result }
+    ensures { RankedDone w text.now rows.now n cells.old count cells.new (built_told result) }
 {
     let s = scanner::next_word(text, w.next);
     let section = match symbols::operators_of(text, rows, n, s.start, s.len) {
         Ok(section) => section,
-        Err(fault) => return stopped(fault, s.start, s.len),
+        Err(fault) => return Err(refused(fault, s)),
     };
     let a = scanner::next_word(text, s.next);
     let o = scanner::next_word(text, a.next);
     let row = match symbols::rule_of(text, rows, n, o.start, o.len) {
         Ok(row) => row,
-        Err(fault) => return stopped(fault, o.start, o.len),
+        Err(fault) => return Err(refused(fault, o)),
     };
     let valued = base::number(rows, symbols::ROW * row + symbols::THIRD_LEN);
     if valued != 0 {
-        return stopped(Fault::NotWanted, o.start, o.len);
+        return Err(refused(Fault::NotWanted, o));
     }
     let lowest = maker::lowest(rows, section, row);
     let c = put_two(cells, count, cells::CALL, lowest);
-    went(o.next, c, true)
+    Ok(went(o.next, c, true))
 }
 
 // The value after `>>`, the word w.
@@ -460,13 +403,13 @@ fn give_value(
     class: usize,
     cells: &mut [u16],
     count: usize,
-) -> Built
+) -> Result<Built, Refusal>
     requires { Lies text.now w × Kept text.now rows.now n }
-    ensures { GivenDone w class text.now rows.now n cells.old count cells.new result }
+    ensures { GivenDone w class text.now rows.now n cells.old count cells.new (built_told result) }
 {
     if class == 0 {
         let v = scanner::next_word(text, w.next);
-        return stopped(Fault::WrongReturn, v.start, v.len);
+        return Err(refused(Fault::WrongReturn, v));
     }
     let sent = Sent {
         class,
@@ -485,9 +428,9 @@ fn resolve_give(
     class: usize,
     cells: &mut [u16],
     count: usize,
-) -> Built
+) -> Result<Built, Refusal>
     requires { Lies text.now w × Kept text.now rows.now n }
-    ensures { GiveDone w class text.now rows.now n cells.old count cells.new result }
+    ensures { GiveDone w class text.now rows.now n cells.old count cells.new (built_told result) }
 {
     let v = scanner::next_word(text, w.next);
     if v.kind == words::NAME {
@@ -497,39 +440,34 @@ fn resolve_give(
         return give_value(text, rows, n, w, class, cells, count);
     }
     if class != 0 {
-        return stopped(Fault::WrongReturn, w.start, w.len);
+        return Err(refused(Fault::WrongReturn, w));
     }
     let c = put(cells, count, cells::BACK);
-    went(w.next, c, false)
+    Ok(went(w.next, c, false))
 }
 
 // `?`, the word w.
-fn resolve_any(w: WordAt, cells: &mut [u16], count: usize) -> Built
-    ensures { (text rows : List ℕ) (n : ℕ) → Lies text w → AnyDone w text rows n cells.old count cells.new result }
+fn resolve_any(w: WordAt, cells: &mut [u16], count: usize) -> Result<Built, Refusal>
+    ensures { (text rows : List ℕ) (n : ℕ) → Lies text w → AnyDone w text rows n cells.old count cells.new (built_told result) }
 {
     let c = put(cells, count, cells::ANY);
-    went(w.next, c, true)
+    Ok(went(w.next, c, true))
 }
 
 // `>`, the word w.
-fn resolve_exit(w: WordAt, inside: bool, cells: &mut [u16], count: usize) -> Built
-    ensures { (text rows : List ℕ) (n : ℕ) → Lies text w → ExitDone w inside text rows n cells.old count cells.new result }
+fn resolve_exit(w: WordAt, inside: bool, cells: &mut [u16], count: usize) -> Result<Built, Refusal>
+    ensures { (text rows : List ℕ) (n : ℕ) → Lies text w → ExitDone w inside text rows n cells.old count cells.new (built_told result) }
 {
     if inside {
         let count = put(cells, count, cells::EXIT);
-        let done = Done {
-            fault: 0,
+        return Ok(Built {
             at: w.next,
-            len: 0,
             count,
-        };
-        return Built {
-            done,
             past: false,
             exits: true,
-        };
+        });
     }
-    stopped(Fault::NoCycle, w.start, w.len)
+    Err(refused(Fault::NoCycle, w))
 }
 
 // A plain action, whose first word is w, and what it means there.
@@ -541,9 +479,9 @@ pub fn resolve_plain(
     w: WordAt,
     cells: &mut [u16],
     count: usize,
-) -> Built
+) -> Result<Built, Refusal>
     requires { (at ≤ length text.now) × Next text.now at w × Kept text.now rows.now scope.n }
-    ensures { PlainDone text.now rows.now scope.n at scope.inside scope.class cells.old count cells.new result }
+    ensures { PlainDone text.now rows.now scope.n at scope.inside scope.class cells.old count cells.new (built_told result) }
 {
     let n = scope.n;
     match w.kind {
@@ -556,7 +494,7 @@ pub fn resolve_plain(
         words::AT => resolve_call(text, rows, n, w.next, cells, count),
         words::TWICE => resolve_give(text, rows, n, w, scope.class, cells, count),
         words::CARET => resolve_ranked(text, rows, n, w, cells, count),
-        _ => stopped(Fault::NotAllowed, w.start, w.len),
+        _ => Err(refused(Fault::NotAllowed, w)),
     }
 }
 
@@ -570,24 +508,29 @@ fn select_rule(
     at: usize,
     cells: &mut [u16],
     count: usize,
-) -> Selected
+) -> Result<Selected, Refusal>
     requires { (at ≤ length text.now) × Kept text.now rows.now n }
-    ensures { ChoiceDone NameIn by_rule_of text.now rows.now n at cells.old count cells.new result }
+    ensures { ChoiceDone NameIn by_rule_of text.now rows.now n at cells.old count cells.new (selected_told result) }
 {
     let w = scanner::next_word(text, at);
     let row = match symbols::rule_of(text, rows, n, w.start, w.len) {
         Ok(row) => row,
-        Err(fault) => return balked(fault, w.start, w.len),
+        Err(fault) => return Err(refused(fault, w)),
     };
     let gives = base::number(rows, symbols::ROW * row + symbols::THIRD_LEN);
     if gives == 0 {
-        return balked(Fault::NotWanted, w.start, w.len);
+        return Err(refused(Fault::NotWanted, w));
     }
     let start = base::number(rows, symbols::ROW * row + symbols::THIRD_START);
     let class = class_named(text, rows, n, start, gives);
     let place = base::number(rows, symbols::ROW * row + symbols::VALUE);
     let c = put_two(cells, count, cells::BY_RULE, place);
-    chose(w.next, c, class, cells::NO_OTHERWISE)
+    Ok(Selected {
+        at: w.next,
+        count: c,
+        class,
+        absent: cells::NO_OTHERWISE,
+    })
 }
 
 // A choice operation w and its constant, the declaration being known.
@@ -599,16 +542,18 @@ fn select_with(
     w: WordAt,
     cells: &mut [u16],
     count: usize,
-) -> Selected
+) -> Result<Selected, Refusal>
     requires { Lies text.now w × Kept text.now rows.now n × (asked.row < n) }
-    ensures { WithDone w asked.row asked.class text.now rows.now n cells.old count cells.new result }
+    ensures { WithDone w asked.row asked.class text.now rows.now n cells.old count cells.new (selected_told result) }
 {
-    let p = match parameter_of(text, rows, n, asked.row, w) {
-        Ok(p) => p,
-        Err(refusal) => return balked(refusal.fault, refusal.at, refusal.len),
-    };
+    let p = parameter_of(text, rows, n, asked.row, w)?;
     let c = put_operation(rows, asked.row, p.value, cells, count);
-    chose(p.at, c, asked.class, cells::NO_OTHERWISE)
+    Ok(Selected {
+        at: p.at,
+        count: c,
+        class: asked.class,
+        absent: cells::NO_OTHERWISE,
+    })
 }
 
 // A choice operation w and its constant.
@@ -619,17 +564,17 @@ fn select_operation(
     w: WordAt,
     cells: &mut [u16],
     count: usize,
-) -> Selected
+) -> Result<Selected, Refusal>
     requires { Lies text.now w × Kept text.now rows.now n }
-    ensures { ByOperationDone w text.now rows.now n cells.old count cells.new result }
+    ensures { ByOperationDone w text.now rows.now n cells.old count cells.new (selected_told result) }
 {
     let row = match symbols::operation_of(text, rows, n, w.start, w.len) {
         Ok(row) => row,
-        Err(fault) => return balked(fault, w.start, w.len),
+        Err(fault) => return Err(refused(fault, w)),
     };
     let chooses = base::number(rows, symbols::ROW * row + symbols::THIRD_LEN);
     if chooses == 0 {
-        return balked(Fault::NotWanted, w.start, w.len);
+        return Err(refused(Fault::NotWanted, w));
     }
     let start = base::number(rows, symbols::ROW * row + symbols::THIRD_START);
     let class = class_named(text, rows, n, start, chooses);
@@ -644,9 +589,9 @@ pub fn resolve_selector(
     at: usize,
     cells: &mut [u16],
     count: usize,
-) -> Selected
+) -> Result<Selected, Refusal>
     requires { (at ≤ length text.now) × Kept text.now rows.now n }
-    ensures { SelectorDone text.now rows.now n at cells.old count cells.new result }
+    ensures { SelectorDone text.now rows.now n at cells.old count cells.new (selected_told result) }
 {
     let w = scanner::next_word(text, at);
     if w.kind == words::AT {
@@ -656,7 +601,12 @@ pub fn resolve_selector(
         return select_operation(text, rows, n, w, cells, count);
     }
     let c = put(cells, count, cells::BY_TOKEN);
-    chose(at, c, symbols::INPUT, cells::NO_TOKEN)
+    Ok(Selected {
+        at,
+        count: c,
+        class: symbols::INPUT,
+        absent: cells::NO_TOKEN,
+    })
 }
 
 // Labels
@@ -708,35 +658,23 @@ pub fn resolve_labels(
     class: usize,
     seen: &mut [u16],
     used: usize,
-) -> Labels
+) -> Result<Labels, Refusal>
     requires { (at ≤ length text.now) × Kept text.now rows.now n × (used ≤ length seen.old) }
-    ensures { LabelsDone text.now rows.now n at class seen.old used seen.new result }
+    ensures { LabelsDone text.now rows.now n at class seen.old used seen.new (labels_told result) }
 {
     let mut i = at;
     let mut u = used;
     // no range: what is read says where the next begins
     loop {
-        let l = match resolve_label(text, rows, n, i, class, seen, u) {
-            Ok(l) => l,
-            Err(refusal) => {
-                return Labels {
-                    fault: u16::from(refusal.fault),
-                    at: refusal.at,
-                    len: refusal.len,
-                    used: u,
-                };
-            }
-        };
+        let l = resolve_label(text, rows, n, i, class, seen, u)?;
         seen[u] = l.value;
         let more = u + 1;
         let w = scanner::next_word(text, l.at);
         if w.kind != words::COMMA {
-            return Labels {
-                fault: 0,
+            return Ok(Labels {
                 at: l.at,
-                len: 0,
                 used: more,
-            };
+            });
         }
         i = w.next;
         u = more;

@@ -17,8 +17,7 @@ use Rattle.partrules.specs.Opened.{Context, Holds}
 use Rattle.parts.specs.Objects.{OpenRule, open_all, open_rules, others, together}
 use Rattle.program.specs.Past.{past_all, exits_all}
 use Rattle.program.specs.Program.{Acts}
-use Rattle.resolver.specs.Resolved.{Ends, ended, failed, Flags}
-use Rattle.resolver.specs.declared.Built.{Built}
+use Rattle.resolver.specs.Resolved.{BuiltTold, Ends, ended, failed, Flags}
 use Rattle.separate.specs.Steps.{Known}
 use Rattle.symbols.proofs.Indexing.{kept-behind, held-behind}
 use Rattle.symbols.specs.Index.{IndexKept}
@@ -31,7 +30,7 @@ use Rattle.words.specs.Words.{Word, words_at}
 abbrev pub context_of : Common → Names → List Rule → List Word → List Use → Bool → Context
 context_of c names rs ws us sure = record { program = together c rs; names = names; known = open_rules c.listed rs; listed = c.listed; others = ws; uses = us; sure = sure }
 
-told : {E F : Type 0} {text : List ℕ} {ws : List Word} {cs : List ℕ} {c : ℕ} {cs' : List ℕ} {r : Built} (x : Checked Acts)
+told : {E F : Type 0} {text : List ℕ} {ws : List Word} {cs : List ℕ} {c : ℕ} {cs' : List ℕ} {r : BuiltTold} (x : Checked Acts)
     → Ends E text ws cs c cs' (λ b. acts_cells b []) (λ b. Flags r.past r.exits (true && past_all b) (false || exits_all b)) r.done x → (F → E)
     → Ends F text ws cs c cs' (λ b. acts_cells b []) (λ b. r.past ≡ past_all b) r.done x
 told (good b) (ended e h k f) g = ended e h (λ y. k (g y)) f.0

@@ -4,10 +4,14 @@ use mathlib.Core.Path.{◌≡◌, refl, ap, ◌∙◌}
 use Prim.Native.Nat.{ℕ, ◌<◌, ◌≤◌}
 use native.Mathlib.Omega.{arith}
 use lib.ListN.{length}
+use Rattle.base.specs.Faults.{fault_number}
+use Rattle.base.specs.declared.Refusal.{Refusal}
+use Rattle.std.specs.Prelude.{Ok, Err}
+use Rattle.symbols.proofs.Numbered.{fault-some}
 use Rattle.frontend.proofs.Buffers.{ready-cells, refused-20, too_long}
 use Rattle.frontend.proofs.Meant.{its-meaning}
 use Rattle.frontend.proofs.Steps.{decides-fault, process-fault, process-read, checked-wrong, checked-good}
-use Rattle.frontend.specs.Resolving.{Resolves, meant, mistaken}
+use Rattle.frontend.specs.Resolving.{Resolves, mistaken}
 use Rattle.frontend.specs.declared.Resolved.{Resolved}
 use Rattle.mapper.proofs.Answers.{its-place}
 use Rattle.names.specs.Known.{Checked, good, wrong}
@@ -24,30 +28,30 @@ use Rattle.words.specs.Words.{Word}
 
 -- A text that is read
 
-module _ {text rows cells starts sorts : List ℕ} {r : Resolved} {p : Program} (resolved : Resolves text rows cells starts sorts r p (understand p)) (ws : List Word) (e : parse text ≡ got p ws) where
-  answer-by : (m : Checked (List Rule)) → understand p ≡ m → process text 4096 ≡ answer_for text 4096 (checked m)
-  answer-by m u = process-read text 4096 p ws e ∙ ap (λ k. answer_for text 4096 (checked k)) u
+answer-by : (text : List ℕ) {p : Program} (ws : List Word) → parse text ≡ got p ws → (m : Checked (List Rule)) → understand p ≡ m → process text 4096 ≡ answer_for text 4096 (checked m)
+answer-by text {p} ws e m u = process-read text 4096 p ws e ∙ ap (λ k. answer_for text 4096 (checked k)) u
 
-  pub read-wrong : {sheet : List ℕ} → (r.fault ≡ 0 → ⊥) → Reads text cells sorts sheet r.fault r.at r.len
+module _ {text : List ℕ} {p : Program} (ws : List Word) (e : parse text ≡ got p ws) where
+  pub read-wrong : {rows cells starts sorts sheet : List ℕ} {x : Refusal} → Resolves text rows cells starts sorts p (Err x) (understand p) → Reads text cells sorts sheet (fault_number x.fault) x.at x.len
   unfolding part_of
-  read-wrong {sheet} z = record { sourced = λ f. absurd (z f); prepares = λ _. go (understand p) refl resolved }
+  read-wrong {rows} {cells} {starts} {sorts} {sheet} {x} resolved = record { sourced = λ f. absurd (fault-some x.fault f); prepares = λ _. go (understand p) refl resolved }
     where
-      go : {table : List ℕ} (m : Checked (List Rule)) → understand p ≡ m → Resolves text rows cells starts sorts r p m → Prepares text table sheet r.fault r.at r.len (process text 4096)
-      go (good prog) u (meant q ready rowed) = absurd (z q)
-      go (wrong k w) u (mistaken q nonzero start len) = rw (answer-by (wrong k w) u ∙ checked-wrong text 4096 k w) (unready q nonzero start len)
+      go : {table : List ℕ} (m : Checked (List Rule)) → understand p ≡ m → Resolves text rows cells starts sorts p (Err x) m → Prepares text table sheet (fault_number x.fault) x.at x.len (process text 4096)
+      go (good prog) u y = elim y [ ]
+      go (wrong k w) u (mistaken q start len) = rw (answer-by text ws e (wrong k w) u ∙ checked-wrong text 4096 k w) (unready q (λ e. fault-some x.fault (q ∙ e)) start len)
 
-  pub read-long : {sheet : List ℕ} {number start len : ℕ} → r.fault ≡ 0 → 4224 < r.cells → number ≡ 20 → start ≡ length text → len ≡ 0 → Reads text cells sorts sheet number start len
-  read-long z l n s k =
-      let h = its-meaning resolved z in
+  pub read-long : {rows cells starts sorts : List ℕ} {r : Resolved} {sheet : List ℕ} {number start len : ℕ} → Resolves text rows cells starts sorts p (Ok r) (understand p) → 4224 < r.cells → number ≡ 20 → start ≡ length text → len ≡ 0 → Reads text cells sorts sheet number start len
+  read-long resolved l n s k =
+      let h = its-meaning resolved in
       record {
         sourced = λ f. absurd (omega (arith, f, n));
-        prepares = λ _. rw (answer-by (good h.prog) h.means ∙ checked-good text 4096 h.prog ∙ refused-20 text h.prog 4096 (too_long 4096 h.ready l)) (unready n (λ x. omega (arith, x)) s k);
+        prepares = λ _. rw (answer-by text ws e (good h.prog) h.means ∙ checked-good text 4096 h.prog ∙ refused-20 text h.prog 4096 (too_long 4096 h.ready l)) (unready n (λ x. omega (arith, x)) s k);
       }
 
-  pub in-buffers : r.fault ≡ 0 → r.cells ≤ 4224 → InBuffers text rows r cells sorts
-  in-buffers z l =
-      let h = its-meaning resolved z in
-      record { tree = p; rest = ws; reads = e; prog = h.prog; means = h.means; cells_are = ready-cells h.ready l; rowed = h.rowed; placed = its-place resolved z }
+  pub in-buffers : {rows cells starts sorts : List ℕ} {r : Resolved} → Resolves text rows cells starts sorts p (Ok r) (understand p) → r.cells ≤ 4224 → InBuffers text rows r cells sorts
+  in-buffers resolved l =
+      let h = its-meaning resolved in
+      record { tree = p; rest = ws; reads = e; prog = h.prog; means = h.means; cells_are = ready-cells h.ready l; rowed = h.rowed; placed = its-place resolved }
 
 -- Any text
 

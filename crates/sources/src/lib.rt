@@ -74,14 +74,16 @@ fn resolve_rules(
     ensures { Reads text.now cells.new sorts.new sheet.new result.number result.start result.len }
 {
     let mut starts = [0u16; frontend::RULES];
-    let b = frontend::resolve(text, rows, cells, &mut starts, sorts);
-    if b.fault != 0 {
-        return Prepared {
-            number: b.fault,
-            start: b.at,
-            len: b.len,
-        };
-    }
+    let b = match frontend::resolve(text, rows, cells, &mut starts, sorts) {
+        Ok(b) => b,
+        Err(e) => {
+            return Prepared {
+                number: u16::from(e.fault),
+                start: e.at,
+                len: e.len,
+            };
+        }
+    };
     if frontend::CELLS < b.cells {
         return too_short(text);
     }

@@ -1,4 +1,3 @@
-pub mod Parts
 pub mod Measured
 pub mod Ends
 pub mod Steps

@@ -1,5 +1,5 @@
 -- The figure of the program whose table and rules' starts are given.
-use Rattle.std.specs.Prelude.{List, ◌≡◌, ℕ, ◌≤◌, length}
+use Rattle.std.specs.Prelude.{Option, Some, None, List, ◌≡◌, ℕ, ◌≤◌, length}
 use Rattle.figure.specs.Count as count
 use Rattle.figure.specs.Told.{Told, told}
 use Rattle.finishing.specs.Finishing.{Finishing}
@@ -9,7 +9,6 @@ use Rattle.meter.specs.Starts.{starts_in}
 use Rattle.program.specs.Accepted.{Accepted}
 use Rattle.program.specs.Program.{Rule}
 use Rattle.program.specs.Table.{table}
-use Rattle.translator.specs.declared.Figure.{Figure}
 
 -- the table of prog, which is accepted and finishing, and where its rules start
 pub record Tabled (bytes starts : List ℕ) (prog : List Rule) : Type 0 where
@@ -28,9 +27,10 @@ pub record IsTabled (bytes starts : List ℕ) : Type 0 where
 abbrev pub Measures : List ℕ → List ℕ → ℕ → Type 0
 Measures bytes starts q = (prog : List Rule) → Tabled bytes starts prog → Found (table prog) (starts_in prog) q
 
-abbrev pub as_told : Figure → Told
-as_told f = record { figure = f.figure; number = f.number }
+abbrev pub as_told : Option ℕ → Told
+as_told (Some q) = record { figure = q; number = 0 }
+as_told None = record { figure = 0; number = 47 }
 
 -- Q, or 47
-abbrev pub FigureOf : List ℕ → List ℕ → Figure → Type 0
+abbrev pub FigureOf : List ℕ → List ℕ → Option ℕ → Type 0
 FigureOf bytes starts f = (prog : List Rule) → Tabled bytes starts prog → as_told f ≡ told (count.figure prog)

@@ -1,21 +1,21 @@
 // The processor: any text and a lent buffer to a table, a verdict and a figure, or to a number and a part of the text.
 #![tactic(auto)]
 
-ghost use Rattle.std.specs.Prelude.{◌≡◌, ℕ, ◌+◌, ◌≤◌, length, take, drop};
+ghost use Rattle.std.specs.Prelude.{◌≡◌, ℕ, ◌+◌, ◌≤◌, length};
 ghost use Rattle.figure.specs.Told.{untold, figure_of};
 ghost use Rattle.frontend.specs.Resolving.{IsRead};
 ghost use Rattle.machine.specs.Bytes.{count};
 ghost use Rattle.processor.specs.Process as means;
 ghost use Rattle.processor.specs.Process.{refused};
 ghost use Rattle.translator.specs.Answered.{Settles, Finishes, Translates, answered, fault_word};
-ghost use Rattle.translator.specs.Measured.{IsTabled, Measures, FigureOf};
+ghost use Rattle.translator.specs.Measured.{IsTabled, Measures, as_told, FigureOf};
 
 // The greatest figure there is.
 const MOST_FIGURE: u64 = 4294967295;
 
 // number 0: the table has `words` words, and the verdict is `finishing`. Else the number of the fault, and the part of the text at fault.
 // Where the verdict is "finishing" `figure` is Q and `check` 0, or `check` is 47.
-#[derive(Clone, Copy)]
+#[derive(Clone, Copy, Debug, PartialEq, Eq)]
 pub struct Answer {
     pub number: u16,
     pub start: usize,
@@ -24,13 +24,6 @@ pub struct Answer {
     pub finishing: bool,
     pub figure: u64,
     pub check: u16,
-}
-
-// Q and 0, or 0 and 47; both 0 where there is neither.
-#[derive(Clone, Copy)]
-pub struct Figure {
-    pub figure: u64,
-    pub number: u16,
 }
 
 fn refusal(number: u16, start: usize, len: usize) -> Answer
@@ -70,17 +63,21 @@ fn acceptance(words: usize, finishing: bool) -> Answer
     }
 }
 
-pub fn with_figure(a: Answer, f: Figure) -> Answer
-    ensures { result ≡ record { number = a.number; start = a.start; len = a.len; words = a.words; finishing = a.finishing; figure = f.figure; check = f.number } }
+// The figure Q, or 47 where there is none.
+pub fn with_figure(a: Answer, figure: Option<u64>) -> Answer
+    ensures { result ≡ record { number = a.number; start = a.start; len = a.len; words = a.words; finishing = a.finishing; figure = (as_told figure).figure; check = (as_told figure).number } }
 {
-    Answer {
-        number: a.number,
-        start: a.start,
-        len: a.len,
-        words: a.words,
-        finishing: a.finishing,
-        figure: f.figure,
-        check: f.number,
+    match figure {
+        Some(q) => Answer {
+            figure: q,
+            check: 0,
+            ..a
+        },
+        None => Answer {
+            figure: 0,
+            check: base::NO_FIGURE,
+            ..a
+        },
     }
 }
 
@@ -95,22 +92,16 @@ fn measure(table: &[u8], starts: &[usize]) -> u64
     meter::figure(table, starts, &mut called, &mut rows)
 }
 
-// The figure of a finishing program, from its table and its rules' starts.
-pub fn figure_of(table: &[u8], starts: &[usize]) -> Figure
+// The figure of a finishing program, from its table and its rules' starts, if it is one that can be told.
+pub fn figure_of(table: &[u8], starts: &[usize]) -> Option<u64>
     requires { IsTabled table.now starts.now }
     ensures { FigureOf table.now starts.now result }
 {
     let q = measure(table, starts);
     if MOST_FIGURE < q {
-        return Figure {
-            figure: 0,
-            number: base::NO_FIGURE,
-        };
+        return None;
     }
-    Figure {
-        figure: q,
-        number: 0,
-    }
+    Some(q)
 }
 
 // The table and the verdict of the program in the buffers, or 20. The spare room is written over.
@@ -140,7 +131,7 @@ pub fn finish(
 }
 
 // An answer but for its figure, and how many rules were placed.
-#[derive(Clone, Copy)]
+#[derive(Clone, Copy, Debug, PartialEq, Eq)]
 struct Translated {
     answer: Answer,
     rules: usize,
@@ -156,13 +147,15 @@ fn translate(text: &[u8], table: &mut [u8], places: &mut [usize]) -> Translated
     let mut cells = [0u16; frontend::CELLS];
     let mut starts = [0u16; frontend::RULES];
     let mut sorts = [0u8; frontend::RULES];
-    let b = frontend::resolve(text, &mut rows, &mut cells, &mut starts, &mut sorts);
-    if b.fault != 0 {
-        return Translated {
-            answer: refuse(table, b.fault, b.at, b.len),
-            rules: 0,
-        };
-    }
+    let b = match frontend::resolve(text, &mut rows, &mut cells, &mut starts, &mut sorts) {
+        Ok(b) => b,
+        Err(e) => {
+            return Translated {
+                answer: refuse(table, u16::from(e.fault), e.at, e.len),
+                rules: 0,
+            };
+        }
+    };
     let answer = finish(text.len(), &cells, &starts, &sorts, b, &mut rows, table);
     sizes::locate(&cells, &sorts, b.rules, places);
     Translated {
@@ -189,23 +182,9 @@ pub fn process(text: &[u8], table: &mut [u8]) -> Answer
     with_figure(t.answer, f)
 }
 
-// The part of the text from `start` on, as long as `len` or to the text's end.
-fn part<'a>(text: &'a [u8], start: usize, len: usize) -> &'a [u8]
-    ensures { result.now ≡ take len (drop start text.now) }
-{
-    let n = text.len();
-    if n <= start {
-        return &text[n..n];
-    }
-    if n - start < len {
-        return &text[start..n];
-    }
-    &text[start..start + len]
-}
-
 // The part of the text at fault.
 pub fn fault_word<'a>(text: &'a [u8], answer: Answer) -> &'a [u8]
     ensures { result.now ≡ fault_word text.now answer }
 {
-    part(text, answer.start, answer.len)
+    base::part(text, answer.start, answer.len)
 }

@@ -9,7 +9,7 @@ pub returns-then-g-ne-TWICE : goal.returns-then-g-ne-TWICE
 returns-then-g-ne-TWICE c = type-none c.requires.0 c.look-g.ensures c.if-g-ne-TWICE.true refl refl refl
 
 pub returns-in-Err : goal.returns-in-Err
-returns-in-Err c = type-fail c.requires.0 c.look-g.ensures c.if-g-ne-TWICE.false c.look-w.ensures (λ kind. not-found (c.in-Err.ensures.looks kind)) (fault-some c.in-Err.fault) c.from.ensures refl refl
+returns-in-Err c = type-fail c.requires.0 c.look-g.ensures c.if-g-ne-TWICE.false c.look-w.ensures (λ kind. not-found (c.in-Err.ensures.looks kind)) (fault-some c.in-Err.fault) c.refused.ensures.fault c.refused.ensures.at c.refused.ensures.len
 
-pub returns : goal.returns
-returns c = type-more c.requires.0 c.look-g.ensures c.if-g-ne-TWICE.false c.look-w.ensures (λ kind. found-row (c.in-Ok.ensures.looks kind)) refl c.look-c.ensures refl refl refl
+pub returns-in-Ok : goal.returns-in-Ok
+returns-in-Ok c = type-more c.requires.0 c.look-g.ensures c.if-g-ne-TWICE.false c.look-w.ensures (λ kind. found-row (c.in-Ok.ensures.looks kind)) refl c.look-c.ensures refl refl refl

@@ -36,4 +36,4 @@ figure_of-f-requires c = record { prog = c.requires.1.prog; tabled = (stood _ _ 
 
 -- src/lib.rt:11:1
 pub returns : goal.returns
-returns c = λ text prog e h. let v = not-false _ c.if-not-a.false in the-figure _ prog v (c.finish-a.ensures text prog e h) (c.figure_of-f.ensures prog (tabled-as _ _ c.finish-a.ensures v c.locate.ensures (search rules) prog h)) c.with_figure.ensures
+returns c = λ text prog e h. let v = not-false _ c.if-not-a.false in the-figure _ prog _ v (c.finish-a.ensures text prog e h) (c.figure_of-f.ensures prog (tabled-as _ _ c.finish-a.ensures v c.locate.ensures (search rules) prog h)) c.with_figure.ensures

@@ -8,7 +8,7 @@ use Rattle.resolver.proofs.Appending.{appends-same}
 use Rattle.resolver.proofs.resolve_call.Goals as goal
 
 pub returns-in-Err : goal.returns-in-Err
-returns-in-Err c = call-stops _ c.next_word-w.ensures c.requires.0 (not-found (c.in-Err.ensures.looks _)) (fault-some c.in-Err.fault) c.stopped.ensures
+returns-in-Err c = call-stops _ c.next_word-w.ensures c.requires.0 (not-found (c.in-Err.ensures.looks _)) (fault-some c.in-Err.fault) c.refused.ensures
 
 pub overflow_mul-row : goal.overflow_mul-row
 overflow_mul-row c = omega (arith, c.in-Ok.ensures.low)
@@ -17,7 +17,7 @@ pub overflow_add-row : goal.overflow_add-row
 overflow_add-row c = omega (arith, c.in-Ok.ensures.low)
 
 pub returns-then-gives-ne0 : goal.returns-then-gives-ne0
-returns-then-gives-ne0 c = call-chooses _ c.next_word-w.ensures c.requires.0 (found-row (c.in-Ok.ensures.looks _)) refl c.in-Ok.ensures.low (λ e. c.if-gives-ne0.true (c.number-gives.ensures.0 ∙ e)) c.stopped-then-gives-ne0.ensures
+returns-then-gives-ne0 c = call-chooses _ c.next_word-w.ensures c.requires.0 (found-row (c.in-Ok.ensures.looks _)) refl c.in-Ok.ensures.low (λ e. c.if-gives-ne0.true (c.number-gives.ensures.0 ∙ e)) c.refused-then-gives-ne0.ensures
 
 pub overflow_mul-row-2 : goal.overflow_mul-row-2
 overflow_mul-row-2 c = omega (arith, c.in-Ok.ensures.low)

@@ -7,4 +7,4 @@ pub returns-then-inside : goal.returns-then-inside
 returns-then-inside c = λ text rows n lies. exit-goes _ _ lies c.if-inside.true c.put-count.ensures refl refl refl refl
 
 pub returns : goal.returns
-returns c = λ text rows n lies. exit-stops _ _ lies c.if-inside.false c.stopped.ensures
+returns c = λ text rows n lies. exit-stops _ _ lies c.if-inside.false c.refused.ensures

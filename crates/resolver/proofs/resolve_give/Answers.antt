@@ -10,7 +10,7 @@ pub returns-then-v-eq-STRING : goal.returns-then-v-eq-STRING
 returns-then-v-eq-STRING c = give-with _ _ _ c.requires.0 c.next_word-v.ensures (inr c.if-v-eq-STRING.true) c.give_value-then-v-eq-STRING.ensures
 
 pub returns-then-class-ne0 : goal.returns-then-class-ne0
-returns-then-class-ne0 c = give-missing _ _ _ c.requires.0 c.next_word-v.ensures c.if-v-eq-NAME.false c.if-v-eq-STRING.false c.if-class-ne0.true c.stopped.ensures
+returns-then-class-ne0 c = give-missing _ _ _ c.requires.0 c.next_word-v.ensures c.if-v-eq-NAME.false c.if-v-eq-STRING.false c.if-class-ne0.true c.refused.ensures
 
 pub returns : goal.returns
 returns c = give-back _ _ _ c.requires.0 c.next_word-v.ensures c.if-v-eq-NAME.false c.if-v-eq-STRING.false c.if-class-ne0.false c.put-c.ensures c.went.ensures

@@ -54,4 +54,4 @@ pub returns-in-94 : goal.returns-in-94
 returns-in-94 c = first-ranked _ _ _ c.requires.1 c.in-94.is c.resolve_ranked.ensures
 
 pub returns-in_default : goal.returns-in_default
-returns-in_default c = first-none _ _ _ c.requires.1 2 (λ e. omega arith) refl c.stopped.ensures.fault c.in_default.in_default-own.rest.0.0.0.0.0.0.0.0.1 c.in_default.in_default-own.rest.0.0.0.0.0.0.0.1 c.in_default.in_default-own.rest.0.0.0.0.0.0.1 c.in_default.in_default-own.rest.0.0.0.0.0.1 c.in_default.in_default-own.rest.0.0.0.0.1 c.in_default.in_default-own.rest.0.0.0.1 c.in_default.in_default-own.rest.0.0.1 c.in_default.in_default-own.rest.0.1 c.in_default.in_default-own.rest.1
+returns-in_default c = first-none _ _ _ c.requires.1 2 (λ e. omega arith) refl c.refused.ensures.fault c.in_default.in_default-own.rest.0.0.0.0.0.0.0.0.1 c.in_default.in_default-own.rest.0.0.0.0.0.0.0.1 c.in_default.in_default-own.rest.0.0.0.0.0.0.1 c.in_default.in_default-own.rest.0.0.0.0.0.1 c.in_default.in_default-own.rest.0.0.0.0.1 c.in_default.in_default-own.rest.0.0.0.1 c.in_default.in_default-own.rest.0.0.1 c.in_default.in_default-own.rest.0.1 c.in_default.in_default-own.rest.1

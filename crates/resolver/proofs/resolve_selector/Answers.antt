@@ -1,4 +1,5 @@
 -- `resolver::resolve_selector` meets its contract.
+use mathlib.Core.Path.{refl}
 use Rattle.resolver.proofs.Choosing.{selector-rule, selector-operation, selector-token}
 use Rattle.resolver.proofs.Plains.{lies-here}
 use Rattle.resolver.proofs.resolve_selector.Goals as goal
@@ -16,4 +17,4 @@ pub returns-then-w-eq-NAME : goal.returns-then-w-eq-NAME
 returns-then-w-eq-NAME c = selector-operation _ c.next_word-w.ensures c.if-w-eq-NAME.true c.select_operation.ensures
 
 pub returns : goal.returns
-returns c = selector-token _ c.next_word-w.ensures c.if-w-eq-AT.false c.if-w-eq-NAME.false c.requires.0 c.put-c.ensures c.chose.ensures
+returns c = selector-token _ c.next_word-w.ensures c.if-w-eq-AT.false c.if-w-eq-NAME.false c.requires.0 c.put-c.ensures (record { fault = refl; at = refl; count = refl; class = refl; absent = refl })

@@ -8,7 +8,7 @@ use Rattle.resolver.proofs.Rests.{same_class}
 use Rattle.resolver.proofs.select_operation.Goals as goal
 
 pub returns-in-Err : goal.returns-in-Err
-returns-in-Err c = operation-balks _ c.requires.0 (not-found (c.in-Err.ensures.looks _)) (fault-some c.in-Err.fault) c.balked.ensures
+returns-in-Err c = operation-balks _ c.requires.0 (not-found (c.in-Err.ensures.looks _)) (fault-some c.in-Err.fault) c.refused.ensures
 
 pub overflow_mul-row : goal.overflow_mul-row
 overflow_mul-row c = omega (arith, c.in-Ok.ensures.low)
@@ -17,7 +17,7 @@ pub overflow_add-row : goal.overflow_add-row
 overflow_add-row c = omega (arith, c.in-Ok.ensures.low)
 
 pub returns-then-chooses-eq0 : goal.returns-then-chooses-eq0
-returns-then-chooses-eq0 c = operation-update _ c.requires.0 (found-row (c.in-Ok.ensures.looks _)) refl c.in-Ok.ensures.low (sym c.number-chooses.ensures.0 ∙ c.if-chooses-eq0.true) c.balked-then-chooses-eq0.ensures
+returns-then-chooses-eq0 c = operation-update _ c.requires.0 (found-row (c.in-Ok.ensures.looks _)) refl c.in-Ok.ensures.low (sym c.number-chooses.ensures.0 ∙ c.if-chooses-eq0.true) c.refused-then-chooses-eq0.ensures
 
 pub overflow_mul-row-2 : goal.overflow_mul-row-2
 overflow_mul-row-2 c = omega (arith, c.in-Ok.ensures.low)

@@ -42,4 +42,4 @@ figure_of-f-requires c = let p = c.translate-t.ensures.placed (not-false _ c.if-
 
 -- src/lib.rt:174:1
 pub returns : goal.returns
-returns c = let v = not-false _ c.if-not-t.false in let t = c.translate-t.ensures in the-figure t v (c.figure_of-f.ensures (c.translate-t.ensures.placed v).prog (c.translate-t.ensures.placed v).stands.tabled) c.with_figure.ensures
+returns c = let v = not-false _ c.if-not-t.false in let t = c.translate-t.ensures in the-figure t _ v (c.figure_of-f.ensures (c.translate-t.ensures.placed v).prog (c.translate-t.ensures.placed v).stands.tabled) c.with_figure.ensures

@@ -6,13 +6,13 @@ use mathlib.Core.Path.{refl, ◌∙◌}
 use Rattle.translator.proofs.translate.Goals as goal
 
 -- src/lib.rt:157:9
-pub resolve-b-requires : goal.resolve-b-requires
-resolve-b-requires c = (omega (arith, parse-short _ c.requires.0.tree c.requires.0.rest c.requires.0.reads), search rules, search rules, search rules, search rules)
+pub resolve-requires : goal.resolve-requires
+resolve-requires c = (omega (arith, parse-short _ c.requires.0.tree c.requires.0.rest c.requires.0.reads), search rules, search rules, search rules, search rules)
 
 -- src/lib.rt:159:9
-pub returns-then-b-ne0 : goal.returns-then-b-ne0
-returns-then-b-ne0 c = let i = c.requires.0 in answered-wrong _ i.tree i.rest i.reads (c.resolve-b.ensures i.tree i.rest i.reads) c.if-b-ne0.true c.refuse.ensures
+pub returns-in-Err : goal.returns-in-Err
+returns-in-Err c = let i = c.requires.0 in answered-wrong _ i.tree i.rest i.reads (c.in-Err.ensures i.tree i.rest i.reads) (rw c.from.ensures at c.refuse.ensures)
 
 -- src/lib.rt:149:1
 pub returns : goal.returns
-returns c = let i = c.requires.0 in answered-good _ i.tree i.rest i.reads (c.resolve-b.ensures i.tree i.rest i.reads) _ _ c.if-b-ne0.false refl (c.locate.auto.starts ∙ c.requires.1) c.finish-answer.ensures c.locate.ensures
+returns c = let i = c.requires.0 in answered-good _ i.tree i.rest i.reads _ _ (c.in-Ok.ensures i.tree i.rest i.reads) refl (c.locate.auto.starts ∙ c.requires.1) c.finish-answer.ensures c.locate.ensures
