@@ -3,17 +3,20 @@ use mathlib.Core.Bool.{Bool, true, false, ◌&&◌, and-false}
 use mathlib.Core.List.{List, [], ◌∷◌, ◌++◌}
 use mathlib.Core.Logic.{◌⊎◌, inl, inr}
 use mathlib.Core.Option.{none}
+use Rattle.std.specs.Prelude.{Ok, Err}
 use mathlib.Core.Path.{◌≡◌, refl, sym, ap, ◌∙◌}
 use Prim.Native.Nat.{ℕ, ◌+◌, ◌-◌, ◌/◌, ◌%◌, ◌<◌, ◌≤◌}
 use native.Mathlib.Omega.{arith}
 use lib.Dec.{eqb, leb, ltb}
 use lib.ListN.{length}
-use borrow.Author.Tests.{eq-eqb, ne_eqb, lt-ltb, le-ltb, le-leb, lt-leb, leb-true, ltb-true, ltb-false}
+use borrow.Author.Tests.{eq-eqb, lt-ltb, le-ltb, le-leb, lt-leb, leb-true, ltb-true, ltb-false}
 use Rattle.base.specs.Bools.{never, split}
 use Rattle.std.specs.Prelude.{if◌then◌else◌}
 use Rattle.counting.proofs.Link.{book-visits, book-call}
 use Rattle.counting.proofs.Loop.{tells_of}
-use Rattle.counting.specs.Counting.{book_visits, book_of, told_of, numbers_of, past_of, gives}
+use Rattle.counting.specs.Counting.{book_visits, book_of, Numbers, numbers_told, numbers_of, past_of, gives, reports}
+use Rattle.counting.specs.declared.FiguresError.{FiguresError}
+use Rattle.counting.specs.declared.FiguresError.TheVariants.{NoFigures, Past}
 use Rattle.counting.specs.declared.Told.{Told}
 use Rattle.figures.proofs.Shelves.{balanced, balanced-plus, sound-decided}
 use Rattle.figures.proofs.Steps.{length-visited}
@@ -59,16 +62,12 @@ module _ (t k a : List ℕ) (budget allowance : ℕ) (fs o : List ℕ) where
   f = figures_named ws
 
   -- nothing is changed
-  abbrev pub Unchanged : ℕ → Type 0
-  Unchanged number = gives (told_of number 0 0) fs o ≡ add_bytes t k a budget allowance fs o
+  abbrev pub Unchanged : FiguresError → Type 0
+  Unchanged e = gives (Err e) fs o ≡ add_bytes t k a budget allowance fs o
 
-  pub another-length : (length fs ≡ 33296 → ⊥) → Unchanged 21
-  unfolding add_bytes added unchanged figures_of
-  another-length h = rw (ne_eqb (length fs) 33296 h) refl
-
-  pub not_sound : length fs ≡ 33296 → sound f ≡ false → Unchanged 21
-  unfolding add_bytes added unchanged figures_of
-  not_sound h e = rw (eq-eqb (length fs) 33296 h, e) refl
+  pub no-sums : figures_of fs ≡ none → Unchanged NoFigures
+  unfolding add_bytes added unchanged
+  no-sums h = rw h refl
 
   module _ (long : length fs ≡ 33296) (good : sound f ≡ true) (small-t : Bytes t) (small-k : Bytes k) (small-a : Bytes a) (allowed : allowance < 65536) where
     abbrev T : List ℕ
@@ -98,17 +97,17 @@ module _ (t k a : List ℕ) (budget allowance : ℕ) (fs o : List ℕ) where
     decides : (b : Bool) → (below64 (f.books + 1) && below64 (f.total + (called T g).steps)) ≡ b → within64 (plus T g f) ≡ b
     decides b e = sound-decided T f g (length-table_of t) good ∙ e
 
-    past : within64 (plus T g f) ≡ false → Unchanged 46
+    past : within64 (plus T g f) ≡ false → Unchanged Past
     unfolding unchanged
     past e = sym (adds-as false e)
 
-    pub books-past : (n : ℕ) → n ≡ number_at ws 4160 → n ≡ 18446744073709551615 → Unchanged 46
+    pub books-past : (n : ℕ) → n ≡ number_at ws 4160 → n ≡ 18446744073709551615 → Unchanged Past
     unfolding figures_named
     books-past n p e =
         let b : below64 (number_at ws 4160 + 1) ≡ false = le-ltb (number_at ws 4160 + 1) 18446744073709551616 (omega arith) in
         past (decides false (ap (λ (x : Bool). x && below64 (f.total + (called T g).steps)) b))
 
-    pub total-past : (n : ℕ) → n ≡ number_at ws 4161 → 18446744073709551615 - n < length vs → n < 18446744073709551616 → Unchanged 46
+    pub total-past : (n : ℕ) → n ≡ number_at ws 4161 → 18446744073709551615 - n < length vs → n < 18446744073709551616 → Unchanged Past
     unfolding figures_named
     total-past n p h s =
         let b : below64 (number_at ws 4161 + (called T g).steps) ≡ false = le-ltb (number_at ws 4161 + (called T g).steps) 18446744073709551616 (omega (arith, steps-are)) in
@@ -122,15 +121,15 @@ module _ (t k a : List ℕ) (budget allowance : ℕ) (fs o : List ℕ) where
     agrees = book-call t k a small-t small-k small-a budget allowance o allowed
 
     -- as many steps as locations counted
-    pub book-steps : (r : Told) → r ≡ tells_of (book_of t k a budget allowance o) → r.steps ≡ length vs
-    book-steps r told = ap (λ (x : Told). x.steps) told ∙ agrees.steps ∙ sym steps-are
+    pub book-steps : (r : Numbers) → r ≡ tells_of (book_of t k a budget allowance o) → r.steps ≡ length vs
+    book-steps r told = ap (λ (x : Numbers). x.steps) told ∙ agrees.steps ∙ sym steps-are
 
     -- the figures with the book
-    module _ (r : Told) (fs' o' cs' : List ℕ) (books total : ℕ) (told : r ≡ tells_of (book_of t k a budget allowance o)) (buffer : o' ≡ (book_of t k a budget allowance o).out)
+    module _ (r : Told) (fs' o' cs' : List ℕ) (books total : ℕ) (told : numbers_told r ≡ tells_of (book_of t k a budget allowance o)) (buffer : o' ≡ (book_of t k a budget allowance o).out)
         (counts : cs' ≡ bumps (numbers_at ws 0 4096) vs) (books-are : books ≡ number_at ws 4160) (total-is : total ≡ number_at ws 4161)
         (written : fs' ≡ bytes_of (number_words (numbers_of cs' (books + 1) (total + r.steps)))) where
       r-steps : r.steps ≡ (called T g).steps
-      r-steps = ap (λ (x : Told). x.steps) told ∙ agrees.steps
+      r-steps = ap (λ (x : Numbers). x.steps) told ∙ agrees.steps
 
       figures-are : fs' ≡ figures_bytes (plus T g f)
       unfolding figures_bytes numbers numbers_of plus figures_named
@@ -141,26 +140,22 @@ module _ (t k a : List ℕ) (budget allowance : ℕ) (fs o : List ℕ) where
           let s : total + r.steps ≡ number_at ws 4161 + (called T g).steps = omega (arith, total-is, r-steps) in
           written ∙ (λ i. bytes_of (number_words (cs i ++ (bs i ++ (n i ∷ s i ∷ [])))))
 
-      pub adds : books < 18446744073709551615 → total + r.steps < 18446744073709551616 → gives r fs' o' ≡ add_bytes t k a budget allowance fs o
+      pub adds : books < 18446744073709551615 → total + r.steps < 18446744073709551616 → gives (Ok r) fs' o' ≡ add_bytes t k a budget allowance fs o
       unfolding counted figures_named
       adds b h =
           let n₁ : below64 (number_at ws 4160 + 1) ≡ true = lt-ltb (number_at ws 4160 + 1) 18446744073709551616 (omega arith) in
           let n₂ : below64 (number_at ws 4161 + (called T g).steps) ≡ true = lt-ltb (number_at ws 4161 + (called T g).steps) 18446744073709551616 (omega (arith, r-steps)) in
           let w = decides true (ap (λ (x : Bool). x && below64 (f.total + (called T g).steps)) n₁ ∙ n₂) in
-          let number : r.number ≡ (called T g).number = ap (λ (x : Told). x.number) told ∙ agrees.number in
-          let events : r.events ≡ length (called T g).events = ap (λ (x : Told). x.events) told ∙ agrees.events in
+          let number : (numbers_told r).number ≡ (called T g).number = ap (λ (x : Numbers). x.number) told ∙ agrees.number in
+          let events : r.events ≡ length (called T g).events = ap (λ (x : Numbers). x.events) told ∙ agrees.events in
           (λ i. record { number = number i; figures = figures-are i; buffer = (buffer ∙ agrees.out) i; events = events i; steps = r-steps i }) ∙ sym (adds-as true w)
 
 -- What the report of a shelf is
 
 module _ (fs : List ℕ) where
-  pub no-figures : (length fs ≡ 33296 → ⊥) → report_of none ≡ shelf_bytes fs
-  unfolding shelf_bytes figures_of
-  no-figures h = rw (ne_eqb (length fs) 33296 h) refl
-
-  pub no-sound-figures : length fs ≡ 33296 → sound (figures_named (words_of fs)) ≡ false → report_of none ≡ shelf_bytes fs
-  unfolding shelf_bytes figures_of
-  no-sound-figures h e = rw (eq-eqb (length fs) 33296 h, e) refl
+  pub no-report : figures_of fs ≡ none → reports (Err NoFigures) ≡ shelf_bytes fs
+  unfolding shelf_bytes report_of
+  no-report h = rw h refl
 
   pub the-report : length fs ≡ 33296 → sound (figures_named (words_of fs)) ≡ true → (b t v m r : ℕ) → b ≡ number_at (words_of fs) 4160 → t ≡ number_at (words_of fs) 4161
       → v ≡ covered (numbers_at (words_of fs) 4096 64) → m ≡ (if eqb b 0 then 0 else t / b) → r ≡ (if eqb b 0 then 0 else t % b)

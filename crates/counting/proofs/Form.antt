@@ -1,6 +1,7 @@
 -- The laws of the byte form's loops: reading, comparing, adding up, writing.
 use mathlib.Core.Bool.{Bool, true, false, ◌&&◌, and-true}
 use mathlib.Core.List.{List, [], ◌∷◌, ◌++◌, append-nil}
+use mathlib.Core.Option.{none}
 use mathlib.Core.Path.{◌≡◌, refl, sym, ap, ◌∙◌}
 use Prim.Native.Nat.{ℕ, zero, suc, ◌+◌, ◌*◌, ◌-◌, ◌/◌, ◌%◌, ◌^◌, ◌<◌, ◌≤◌}
 use native.Mathlib.Nat.{pow-suc}
@@ -21,9 +22,9 @@ use Rattle.counting.specs.Counting.{numbers_of}
 use Rattle.figures.proofs.Bits.{get_d_bits}
 use Rattle.figures.proofs.Form.{length-number_words, length-bits}
 use Rattle.figures.specs.Figures.{Figures, sum, covered, flag, packed, bits_of, sound}
-use Rattle.figures.specs.Form.{number_words}
+use Rattle.figures.specs.Form.{number_words, figures_named, figures_of}
 use Rattle.machine.proofs.Bytes.{length-bytes_of}
-use Rattle.machine.specs.Bytes.{bytes_of, over}
+use Rattle.machine.specs.Bytes.{words_of, bytes_of, over}
 use Rattle.machine.specs.Form.{words64}
 
 -- The bits of 64 counts, from the last
@@ -218,3 +219,14 @@ module _ (f : Figures) (size : length f.counts ≡ 4096) where
   fits-together e h =
       let l : last-test ≡ true = split (eqb f.books 0) (λ t. rw t (eq-eqb f.total 0 (h (eqb-true f.books 0 t)))) (λ t. rw t refl) in
       sym (sound-is ∙ ap (λ (x : Bool). x && (eqb f.total (sum f.counts) && last-test)) e ∙ ap (λ (x : Bool). eqb f.total (sum f.counts) && x) l ∙ and-true (eqb f.total (sum f.counts)))
+
+-- Bytes that are no figures
+
+module _ (fs : List ℕ) where
+  pub other-length : (length fs ≡ 33296 → ⊥) → figures_of fs ≡ none
+  unfolding figures_of
+  other-length h = rw (ne_eqb (length fs) 33296 h) refl
+
+  pub unsound : length fs ≡ 33296 → false ≡ sound (figures_named (words_of fs)) → figures_of fs ≡ none
+  unfolding figures_of
+  unsound h e = rw (eq-eqb (length fs) 33296 h, sym e) refl

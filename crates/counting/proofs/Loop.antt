@@ -10,8 +10,7 @@ use borrow.Author.Tests.{eqb-false, leb-true}
 use Rattle.base.proofs.Laws.{above_zero}
 use Rattle.std.specs.Prelude.{if◌then◌else◌}
 use Rattle.machine.specs.Bytes.{count, word_at}
-use Rattle.counting.specs.Counting.{visits_of, book_visits, book_of, Inside, told_of}
-use Rattle.counting.specs.declared.Told.{Told}
+use Rattle.counting.specs.Counting.{visits_of, book_visits, book_of, Inside, Numbers, told_of}
 use Rattle.figures.proofs.Sums.{sum-bumps, count_most, length-bump}
 use Rattle.figures.specs.Figures.{sum, bump, bumps}
 use Rattle.machine.specs.Lengths.{length_of}
@@ -221,10 +220,10 @@ counted-all true vs X cs e c = sym (ap (bumps cs) e) ∙ c.counts
 counted-all false vs X cs e c = c.counts
 
 -- what the loop is left with: number, events and steps; the event buffer; the counts
-abbrev pub tells_of : Outcome → Told
+abbrev pub tells_of : Outcome → Numbers
 tells_of x = told_of x.number x.events x.steps
 
-abbrev pub Left : Told → List ℕ → List ℕ → Outcome → List ℕ → List ℕ → Type 0
+abbrev pub Left : Numbers → List ℕ → List ℕ → Outcome → List ℕ → List ℕ → Type 0
 Left r o cs book out all = (r ≡ tells_of book) × ((o ≡ out) × (cs ≡ all))
 
 -- after a step that is done the walk goes on; b is the definition's event buffer before it
@@ -280,7 +279,7 @@ module _ (t k a : List ℕ) (budget allowance : ℕ) (writes : Bool) (o₀ cs₀
   abbrev b : List ℕ
   b = inv.buffer
 
-  abbrev Done-with : Told → List ℕ → Type 0
+  abbrev Done-with : Numbers → List ℕ → Type 0
   Done-with x cs' = Left x o cs' (book_of t k a budget allowance o₀) (if writes then (book_of t k a budget allowance o₀).out else o₀) (counts-then t k a budget allowance writes o₀ cs₀)
 
   ends_as : (ph : Phase) (number steps : ℕ) (cs' : List ℕ) → go_of t k a false (budget - d) r rs b e d ≡ ended ph r rs b e steps number

@@ -1,58 +1,54 @@
 -- Totals rule by rule: what the code tells is what the definitions say.
 use mathlib.Core.Bool.{Bool, true, false}
 use mathlib.Core.List.{List}
+use mathlib.Core.Option.{none}
 use mathlib.Core.Path.{◌≡◌, refl, sym, ap, ◌∙◌}
 use Prim.Native.Nat.{ℕ, ◌+◌, ◌-◌, ◌/◌, ◌<◌}
 use native.Mathlib.Omega.{arith}
 use lib.Dec.{ltb}
 use lib.ListN.{length, take, get_or}
 use lib.Seq.{take_all}
-use borrow.Author.Tests.{eq-eqb, ne_eqb, lt-ltb, le-ltb, ltb-true, ltb-false}
+use borrow.Author.Tests.{eq-eqb, lt-ltb, le-ltb, ltb-true, ltb-false}
 use Rattle.std.specs.Prelude.{if◌then◌else◌}
 use Rattle.counting.proofs.Form.{sum-next, sum-most}
-use Rattle.counting.specs.Counting.{totals}
-use Rattle.counting.specs.declared.Total.{Total}
+use Rattle.counting.specs.Counting.{Named}
+use Rattle.counting.specs.declared.Sums.{Sums}
+use Rattle.figures.proofs.Form.{length-numbers_at}
 use Rattle.figures.proofs.Shelves.{balanced}
 use Rattle.figures.proofs.Spans.{length-span_totals, length-locations_at, get_d-span_totals, get_d-last_total}
 use Rattle.figures.specs.Figures.{sum, sound}
-use Rattle.figures.specs.Form.{number_at, numbers_at, figures_named, figures_of}
+use Rattle.figures.specs.Form.{numbers_at, figures_named, figures_of}
 use Rattle.figures.specs.Spans.{span_total, span_totals, location_at, locations_at, locations_in, tells, span_of, span_bytes, bounded, together_of, together_bytes}
 use Rattle.machine.specs.Bytes.{words_of}
 
--- a struct by its two numbers
-pub told : (r : Total) (n t : ℕ) → (r.number ≡ n) × (r.total ≡ t) → totals r ≡ tells n t
-told r n t h = (λ i. tells (h.0 i) (h.1 i))
-
 module _ (fs : List ℕ) where
-  pub no_span : (from to : ℕ) → (length fs ≡ 33296 → ⊥) → tells 21 0 ≡ span_bytes fs from to
-  unfolding span_bytes span_of figures_of
-  no_span from to h = rw (ne_eqb (length fs) 33296 h) refl
-
-  pub unsound-span : (from to : ℕ) → length fs ≡ 33296 → sound (figures_named (words_of fs)) ≡ false → tells 21 0 ≡ span_bytes fs from to
-  unfolding span_bytes span_of figures_of
-  unsound-span from to h e = rw (eq-eqb (length fs) 33296 h, e) refl
+  pub no-span : (from to : ℕ) → figures_of fs ≡ none → tells 21 0 ≡ span_bytes fs from to
+  unfolding span_bytes span_of
+  no-span from to h = rw h refl
 
   pub the-span : (from to t : ℕ) → length fs ≡ 33296 → sound (figures_named (words_of fs)) ≡ true → t ≡ span_total from to (numbers_at (words_of fs) 0 4096) → tells 0 t ≡ span_bytes fs from to
   unfolding span_bytes span_of figures_of figures_named
   the-span from to t h e q = ap (tells 0) q ∙ rw (eq-eqb (length fs) 33296 h, e) refl
 
-  pub no-rules : (rows : List ℕ) (end : ℕ) → (length fs ≡ 33296 → ⊥) → tells 21 0 ≡ together_bytes fs rows end
-  unfolding together_bytes together_of figures_of
-  no-rules rows end h = rw (ne_eqb (length fs) 33296 h) refl
-
-  pub unsound-rules : (rows : List ℕ) (end : ℕ) → length fs ≡ 33296 → sound (figures_named (words_of fs)) ≡ false → tells 21 0 ≡ together_bytes fs rows end
-  unfolding together_bytes together_of figures_of
-  unsound-rules rows end h e = rw (eq-eqb (length fs) 33296 h, e) refl
+  pub no-rules : (rows : List ℕ) (end : ℕ) → figures_of fs ≡ none → tells 21 0 ≡ together_bytes fs rows end
+  unfolding together_bytes together_of
+  no-rules rows end h = rw h refl
 
   pub the-rules : (rows : List ℕ) (end : ℕ) → length fs ≡ 33296 → sound (figures_named (words_of fs)) ≡ true
       → bounded (sum (span_totals (locations_at (words_of rows) 0 (length rows / 24)) end (numbers_at (words_of fs) 0 4096))) ≡ together_bytes fs rows end
   unfolding together_bytes together_of locations_in figures_of figures_named
   the-rules rows end h e = rw (eq-eqb (length fs) 33296 h, e) refl
 
-  -- the counts add up to the total
-  pub sound-sum : sound (figures_named (words_of fs)) ≡ true → sum (numbers_at (words_of fs) 0 4096) ≡ number_at (words_of fs) 4161
-  unfolding figures_named
-  sound-sum e = sym (balanced (figures_named (words_of fs)) e).total
+-- the counts of figures that fit together
+
+pub counts-sized : {fs counts : List ℕ} {sums : Sums} → Named fs counts sums → length counts ≡ 4096
+counts-sized {fs} n = ap (λ (l : List ℕ). length l) n.counts_are ∙ length-numbers_at (words_of fs) 0 4096
+
+pub counts-fit : {fs counts : List ℕ} {sums : Sums} → Named fs counts sums → sum counts < 18446744073709551616
+unfolding figures_named
+counts-fit {fs} n =
+    let e = ap sum n.counts_are ∙ sym (balanced (figures_named (words_of fs)) n.good).total ∙ sym n.total_is in
+    omega (arith, e, n.total_low)
 
 -- Rules together
 

@@ -2,7 +2,7 @@
 // Nothing of this is in the walker's own loop.
 #![tactic(auto)]
 
-ghost use Rattle.std.specs.Prelude.{true, ◌≡◌, ◌+◌, ◌*◌, ◌-◌, ◌/◌, ◌%◌, ◌<◌, ◌≤◌, ◌^◌, min, eqb, ltb, length, take, drop, get_or, sum as total_of, if◌then◌else◌};
+ghost use Rattle.std.specs.Prelude.{true, ◌≡◌, ◌+◌, ◌*◌, ◌-◌, ◌/◌, ◌%◌, ◌<◌, ◌≤◌, ◌^◌, min, eqb, ltb, length, take, drop, get_or, IfOk, IfErr, sum as total_of, if◌then◌else◌};
 ghost use Rattle.std.proofs.Math.Option.{none};
 ghost use Rattle.base.specs.Common.{same};
 ghost use Rattle.machine.specs.Bytes.{count, words_of, bytes_of};
@@ -10,12 +10,13 @@ ghost use Rattle.figures.specs.Figures as sums;
 ghost use Rattle.figures.specs.Figures.{sum, bumps, bits_of, packed};
 ghost use Rattle.figures.specs.Spans as spans;
 ghost use Rattle.figures.specs.Form as form;
-ghost use Rattle.figures.specs.Form.{number_at, numbers_at, figures_named};
-ghost use Rattle.counting.specs.Counting.{book_visits, book_of, Inside, told_of, numbers_of, past_of, gives, reports, totals};
-ghost use Rattle.walker.specs.Shape.{put_event, number_of};
+ghost use Rattle.figures.specs.Form.{number_at, numbers_at, figures_named, figures_of};
+ghost use Rattle.counting.specs.Counting.{book_visits, book_of, Inside, told_of, numbers_told, numbers_of, past_of, error_number, Named, gives, reports, totals};
+ghost use Rattle.counting.specs.declared.FiguresError.TheVariants.{NoFigures};
+ghost use Rattle.walker.specs.Shape.{put_event, number_of, ending_number};
 
 use machine::EVENT_WORDS;
-use walker::{Event, Next, Reason, Terms};
+use walker::{Ending, Event, Next, Reason, Terms};
 
 // Figures as bytes (docs/LAYOUT.md): a count for each location, the words of their bits, books, total.
 const LOCATIONS: usize = base::TABLE_WORDS;
@@ -39,10 +40,29 @@ const ROW_BYTES: usize = 24;
 
 const GREATEST: u64 = u64::MAX;
 
-// What adding a book tells: the call's number, the events written, the steps done.
+// Why figures tell nothing: bytes are none, or a number would pass 64 bits.
+#[derive(Clone, Copy, Debug, PartialEq, Eq)]
+pub enum FiguresError {
+    NoFigures,
+    Past,
+}
+
+// The number that C is told of it.
+impl From<FiguresError> for u16 {
+    ghost from_gives = { λ error n. n ≡ error_number error };
+
+    fn from(error: FiguresError) -> u16 {
+        match error {
+            FiguresError::NoFigures => base::REFUSED,
+            FiguresError::Past => base::PAST,
+        }
+    }
+}
+
+// What a book's call tells: how it ended, the events written, the steps done.
 #[derive(Clone, Copy, Debug, PartialEq, Eq)]
 pub struct Told {
-    pub number: u16,
+    pub ending: Ending,
     pub events: u64,
     pub steps: u64,
 }
@@ -50,7 +70,6 @@ pub struct Told {
 // What figures say of the whole shelf.
 #[derive(Clone, Copy, Debug, PartialEq, Eq)]
 pub struct Report {
-    pub number: u16,
     pub books: u64,
     pub total: u64,
     pub covered: u64,
@@ -66,11 +85,11 @@ struct Book {
     writes: bool,
 }
 
-fn ended(number: u16, events: usize, steps: u64) -> Told
-    ensures { result ≡ told_of number events steps }
+fn ended(ending: Ending, events: usize, steps: u64) -> Told
+    ensures { numbers_told result ≡ told_of (ending_number ending) events steps }
 {
     Told {
-        number,
+        ending,
         events: events as u64,
         steps,
     }
@@ -107,11 +126,11 @@ fn stopped(
     steps: u64,
 ) -> Told
     requires { (length counts.old ≡ 4096) × (Inside l × (writes ≡ true → get_or counts.old (l - 1) 0 + 1 < 2 ^ 64)) }
-    ensures value { result ≡ told_of (number_of why) events steps }
+    ensures value { numbers_told result ≡ told_of (number_of why) events steps }
     ensures counts_after { counts.new ≡ (if writes then sums.bump counts.old l else counts.old) }
 {
     bump(counts, l, writes);
-    ended(u16::from(why), events, steps)
+    ended(Ending::Stopped(why), events, steps)
 }
 
 // A whole call from a fresh walk, its steps counted at their locations; or only measured, and then nothing is written. Room is words left for events.
@@ -125,7 +144,7 @@ fn count_book(
     counts: &mut [u64],
 ) -> Told
     requires { (length counts.old ≡ 4096) × (b.writes ≡ true → sum counts.old + length (book_visits table.now tokens.now answers.now b.budget b.allowance (count out.old)) < 2 ^ 64) }
-    ensures value { result ≡ told_of (book_of table.now tokens.now answers.now b.budget b.allowance out.old).number (book_of table.now tokens.now answers.now b.budget b.allowance out.old).events (book_of table.now tokens.now answers.now b.budget b.allowance out.old).steps }
+    ensures value { numbers_told result ≡ told_of (book_of table.now tokens.now answers.now b.budget b.allowance out.old).number (book_of table.now tokens.now answers.now b.budget b.allowance out.old).events (book_of table.now tokens.now answers.now b.budget b.allowance out.old).steps }
     ensures out_after { out.new ≡ (if b.writes then (book_of table.now tokens.now answers.now b.budget b.allowance out.old).out else out.old) }
     ensures counts_after { counts.new ≡ (if b.writes then bumps counts.old (book_visits table.now tokens.now answers.now b.budget b.allowance (count out.old)) else counts.old) }
 {
@@ -140,8 +159,8 @@ fn count_book(
         let x = at.next(&known, &returns, table, tokens, answers, terms);
         let next = done + 1;
         match x {
-            Next::Full => return ended(base::FULL, events, done),
-            Next::Outside => return ended(base::OUTSIDE, events, done),
+            Next::Full => return ended(Ending::Full, events, done),
+            Next::Outside => return ended(Ending::Stopped(Reason::Outside), events, done),
             Next::Stop(why) => return stopped(why, counts, here, b.writes, events, next),
             Next::On(q) => at = q,
             Next::Tells(q, e) => {
@@ -151,11 +170,11 @@ fn count_book(
                 room -= EVENT_WORDS;
             }
             Next::Push(q, back) => at = walker::hold(&mut returns, q, back),
-            Next::Waits(_, _) => return ended(base::WAITS, events, next),
+            Next::Waits(_, _) => return ended(Ending::Waits, events, next),
         }
         bump(counts, here, b.writes);
     }
-    ended(base::SPENT, events, b.budget)
+    ended(Ending::Spent, events, b.budget)
 }
 
 // Figures as bytes
@@ -168,15 +187,14 @@ fn number_at(s: &[u8], i: usize) -> u64
     buffers::read_64(s, buffers::NUMBER_WORDS * i)
 }
 
-fn counts_of(s: &[u8]) -> [u64; LOCATIONS]
-    requires { length s.now ≡ 33296 }
-    ensures { result ≡ numbers_at (words_of s.now) 0 4096 }
+// The counts, into a row that is lent: handed back, an array so large would be copied.
+fn read_counts(s: &[u8], counts: &mut [u64])
+    requires { (length s.now ≡ 33296) × (length counts.old ≡ 4096) }
+    ensures { counts.new ≡ numbers_at (words_of s.now) 0 4096 }
 {
-    let mut counts = [0u64; LOCATIONS];
     for i in 0..LOCATIONS {
         counts[i] = number_at(s, i);
     }
-    counts
 }
 
 // 1 for a location that was executed.
@@ -232,10 +250,33 @@ fn is_sound(s: &[u8], counts: &[u64]) -> bool
 {
     let books = number_at(s, BOOKS_NUMBER);
     let total = number_at(s, TOTAL_NUMBER);
-    if books == 0 && total != 0 {
-        return false;
+    (books != 0 || total == 0) && covers(s, counts) && adds_up(counts, total)
+}
+
+// What sound figures say beside their counts: the books added, and all their steps.
+#[derive(Clone, Copy, Debug, PartialEq, Eq)]
+struct Sums {
+    books: u64,
+    total: u64,
+}
+
+// The counts of figures, into a row that is lent, and their sums.
+fn read_figures(figures: &[u8], counts: &mut [u64]) -> Result<Sums, FiguresError>
+    requires { length counts.old ≡ 4096 }
+    ensures named { IfOk result (Named figures.now counts.new) }
+    ensures refused { IfErr result (λ e. (e ≡ NoFigures) × (figures_of figures.now ≡ none)) }
+{
+    if figures.len() != FIGURES_BYTES {
+        return Err(FiguresError::NoFigures);
     }
-    covers(s, counts) && adds_up(counts, total)
+    read_counts(figures, counts);
+    if !is_sound(figures, counts) {
+        return Err(FiguresError::NoFigures);
+    }
+    Ok(Sums {
+        books: number_at(figures, BOOKS_NUMBER),
+        total: number_at(figures, TOTAL_NUMBER),
+    })
 }
 
 // Number i of figures with these counts, their bits, books and total.
@@ -300,7 +341,7 @@ fn passes(
     left < m.steps
 }
 
-// A book added to figures by a whole call from a fresh walk. With 46 nothing is written.
+// A book added to figures by a whole call from a fresh walk. With an error nothing is written.
 pub fn add_book(
     table: &[u8],
     tokens: &[u8],
@@ -309,47 +350,26 @@ pub fn add_book(
     allowance: u16,
     figures: &mut [u8],
     events: &mut [u8],
-) -> Told
+) -> Result<Told, FiguresError>
     ensures { gives result figures.new events.new ≡ form.add_bytes table.now tokens.now answers.now budget allowance figures.old events.old }
 {
-    if figures.len() != FIGURES_BYTES {
-        return ended(base::REFUSED, 0, 0);
-    }
-    let mut counts = counts_of(figures);
-    if !is_sound(figures, &counts) {
-        return ended(base::REFUSED, 0, 0);
-    }
-    let books = number_at(figures, BOOKS_NUMBER);
-    let total = number_at(figures, TOTAL_NUMBER);
-    if books == GREATEST {
-        return ended(base::PAST, 0, 0);
+    let mut counts = [0u64; LOCATIONS];
+    let sums = read_figures(figures, &mut counts)?;
+    if sums.books == GREATEST {
+        return Err(FiguresError::Past);
     }
     let b = Book {
         budget,
         allowance,
         writes: true,
     };
-    let left = GREATEST - total;
+    let left = GREATEST - sums.total;
     if passes(table, tokens, answers, b, left, events, &mut counts) {
-        return ended(base::PAST, 0, 0);
+        return Err(FiguresError::Past);
     }
-    let r = count_book(table, tokens, answers, b, events, &mut counts);
-    put_figures(figures, &counts, books + 1, total + r.steps);
-    r
-}
-
-// Figures that are none.
-fn no_report() -> Report
-    ensures { reports result ≡ form.report_of none }
-{
-    Report {
-        number: base::REFUSED,
-        books: 0,
-        total: 0,
-        covered: 0,
-        mean: 0,
-        rest: 0,
-    }
+    let told = count_book(table, tokens, answers, b, events, &mut counts);
+    put_figures(figures, &counts, sums.books + 1, sums.total + told.steps);
+    Ok(told)
 }
 
 // Mean steps a book, whole part and remainder: both 0 for an empty shelf.
@@ -366,42 +386,21 @@ fn rest_of(total: u64, books: u64) -> u64
 }
 
 // What figures say of the whole shelf.
-pub fn shelf_report(figures: &[u8]) -> Report
+pub fn shelf_report(figures: &[u8]) -> Result<Report, FiguresError>
     ensures { reports result ≡ form.shelf_bytes figures.now }
 {
-    if figures.len() != FIGURES_BYTES {
-        return no_report();
-    }
-    let counts = counts_of(figures);
-    if !is_sound(figures, &counts) {
-        return no_report();
-    }
-    let books = number_at(figures, BOOKS_NUMBER);
-    let total = number_at(figures, TOTAL_NUMBER);
-    Report {
-        number: 0,
-        books,
-        total,
+    let mut counts = [0u64; LOCATIONS];
+    let sums = read_figures(figures, &mut counts)?;
+    Ok(Report {
+        books: sums.books,
+        total: sums.total,
         covered: covered(figures),
-        mean: mean_of(total, books),
-        rest: rest_of(total, books),
-    }
+        mean: mean_of(sums.total, sums.books),
+        rest: rest_of(sums.total, sums.books),
+    })
 }
 
 // Rule by rule
-
-// A number, and a total of executions.
-#[derive(Clone, Copy, Debug, PartialEq, Eq)]
-pub struct Total {
-    pub number: u16,
-    pub total: u64,
-}
-
-fn totalled(number: u16, total: u64) -> Total
-    ensures { (result.number ≡ number) × (result.total ≡ total) }
-{
-    Total { number, total }
-}
 
 // The index of a location's count, at most the number of counts; location 0 has none.
 fn count_index(location: u64) -> usize
@@ -419,8 +418,8 @@ fn sum_of(counts: &[u64]) -> u64
 }
 
 // The executions of the locations from `from` on, up to `to` and without it: no more than all of them.
-fn span(counts: &[u64], total: u64, from: u64, to: u64) -> u64
-    requires { (length counts.now ≡ 4096) × (sum counts.now ≡ total) }
+fn span(counts: &[u64], from: u64, to: u64) -> u64
+    requires { (length counts.now ≡ 4096) × (sum counts.now < 2 ^ 64) }
     ensures { result ≡ spans.span_total from to counts.now }
 {
     let start = count_index(from);
@@ -429,18 +428,12 @@ fn span(counts: &[u64], total: u64, from: u64, to: u64) -> u64
 }
 
 // The executions of one rule: its words begin at `from`, those of the next at `to`.
-pub fn rule_total(figures: &[u8], from: u64, to: u64) -> Total
+pub fn rule_total(figures: &[u8], from: u64, to: u64) -> Result<u64, FiguresError>
     ensures { totals result ≡ spans.span_bytes figures.now from to }
 {
-    if figures.len() != FIGURES_BYTES {
-        return totalled(base::REFUSED, 0);
-    }
-    let counts = counts_of(figures);
-    if !is_sound(figures, &counts) {
-        return totalled(base::REFUSED, 0);
-    }
-    let total = number_at(figures, TOTAL_NUMBER);
-    totalled(0, span(&counts, total, from, to))
+    let mut counts = [0u64; LOCATIONS];
+    read_figures(figures, &mut counts)?;
+    Ok(span(&counts, from, to))
 }
 
 // The location of row i of `rows`, of n in all; `end` behind the last.
@@ -455,35 +448,29 @@ fn location(rows: &[u8], n: usize, i: usize, end: u64) -> u64
     }
 }
 
-// The executions of n rules together, or 46.
-fn together(counts: &[u64], total: u64, rows: &[u8], n: usize, end: u64) -> Total
-    requires { (length counts.now ≡ 4096) × ((sum counts.now ≡ total) × (24 * n ≤ length rows.now)) }
+// The executions of n rules together, where they stay within 64 bits.
+fn together(counts: &[u64], rows: &[u8], n: usize, end: u64) -> Result<u64, FiguresError>
+    requires { (length counts.now ≡ 4096) × ((sum counts.now < 2 ^ 64) × (24 * n ≤ length rows.now)) }
     ensures { totals result ≡ spans.bounded (sum (spans.span_totals (spans.locations_at (words_of rows.now) 0 n) end counts.now)) }
 {
     let mut all: u64 = 0;
     for i in 0..n {
         let from = location(rows, n, i, end);
         let to = location(rows, n, i + 1, end);
-        let t = span(counts, total, from, to);
-        if GREATEST - all < t {
-            return totalled(base::PAST, 0);
+        let more = span(counts, from, to);
+        if GREATEST - all < more {
+            return Err(FiguresError::Past);
         }
-        all += t;
+        all += more;
     }
-    totalled(0, all)
+    Ok(all)
 }
 
 // The executions of all rules together, by their rows; the last one's words end before `end`.
-pub fn rules_total(figures: &[u8], rows: &[u8], end: u64) -> Total
+pub fn rules_total(figures: &[u8], rows: &[u8], end: u64) -> Result<u64, FiguresError>
     ensures { totals result ≡ spans.together_bytes figures.now rows.now end }
 {
-    if figures.len() != FIGURES_BYTES {
-        return totalled(base::REFUSED, 0);
-    }
-    let counts = counts_of(figures);
-    if !is_sound(figures, &counts) {
-        return totalled(base::REFUSED, 0);
-    }
-    let total = number_at(figures, TOTAL_NUMBER);
-    together(&counts, total, rows, rows.len() / ROW_BYTES, end)
+    let mut counts = [0u64; LOCATIONS];
+    read_figures(figures, &mut counts)?;
+    together(&counts, rows, rows.len() / ROW_BYTES, end)
 }

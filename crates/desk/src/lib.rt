@@ -38,10 +38,18 @@ pub extern "C" fn sst_add_book(
 ) -> u16
     ensures { adds result figures.new events.new written.new steps.new ≡ figuring.add_bytes table.now tokens.now answers.now budget allowance figures.old events.old }
 {
-    let r = counting::add_book(table, tokens, answers, budget, allowance, figures, events);
-    *written = r.events;
-    *steps = r.steps;
-    r.number
+    match counting::add_book(table, tokens, answers, budget, allowance, figures, events) {
+        Ok(told) => {
+            *written = told.events;
+            *steps = told.steps;
+            u16::from(told.ending)
+        }
+        Err(error) => {
+            *written = 0;
+            *steps = 0;
+            u16::from(error)
+        }
+    }
 }
 
 // What figures say of the whole shelf.
@@ -56,13 +64,24 @@ pub extern "C" fn sst_shelf(
 ) -> u16
     ensures { reports result books.new total.new covered.new mean.new rest.new ≡ figuring.shelf_bytes figures.now }
 {
-    let r = counting::shelf_report(figures);
-    *books = r.books;
-    *total = r.total;
-    *covered = r.covered;
-    *mean = r.mean;
-    *rest = r.rest;
-    r.number
+    match counting::shelf_report(figures) {
+        Ok(report) => {
+            *books = report.books;
+            *total = report.total;
+            *covered = report.covered;
+            *mean = report.mean;
+            *rest = report.rest;
+            0
+        }
+        Err(error) => {
+            *books = 0;
+            *total = 0;
+            *covered = 0;
+            *mean = 0;
+            *rest = 0;
+            u16::from(error)
+        }
+    }
 }
 
 // The executions of one rule, whose words begin at location `from` and those of the next at `to`.
@@ -70,9 +89,16 @@ pub extern "C" fn sst_shelf(
 pub extern "C" fn sst_rule_total(figures: &[u8], from: u64, to: u64, total: &mut u64) -> u16
     ensures { spans.tells result total.new ≡ spans.span_bytes figures.now from to }
 {
-    let r = counting::rule_total(figures, from, to);
-    *total = r.total;
-    r.number
+    match counting::rule_total(figures, from, to) {
+        Ok(executions) => {
+            *total = executions;
+            0
+        }
+        Err(error) => {
+            *total = 0;
+            u16::from(error)
+        }
+    }
 }
 
 // The executions of all rules together, by the rows of sst_rules; `end` is the location behind the table's last word.
@@ -80,9 +106,16 @@ pub extern "C" fn sst_rule_total(figures: &[u8], from: u64, to: u64, total: &mut
 pub extern "C" fn sst_rules_total(figures: &[u8], rows: &[u8], end: u64, total: &mut u64) -> u16
     ensures { spans.tells result total.new ≡ spans.together_bytes figures.now rows.now end }
 {
-    let r = counting::rules_total(figures, rows, end);
-    *total = r.total;
-    r.number
+    match counting::rules_total(figures, rows, end) {
+        Ok(executions) => {
+            *total = executions;
+            0
+        }
+        Err(error) => {
+            *total = 0;
+            u16::from(error)
+        }
+    }
 }
 
 // Parts

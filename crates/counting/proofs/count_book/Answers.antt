@@ -6,6 +6,7 @@ use Rattle.machine.specs.Lengths.{lengths}
 use Rattle.counting.proofs.Loop.{never-waits, at-spent, at-full, at-outside, at-stop, stop-room, moved_as, moved_on, moved-tells, moved-push, tells-room, push-deep, move-room, again, start}
 use Rattle.counting.proofs.count_book.Goals.{in-On, in-Tells, in-Push}
 use Rattle.counting.specs.Counting.{told_of}
+use Rattle.walker.specs.Shape.{number_of, ending_number}
 use Rattle.counting.proofs.count_book.Goals as goal
 
 pub loop-done-init : goal.loop-done-init
@@ -21,10 +22,12 @@ pub overflow_add-next : goal.overflow_add-next
 overflow_add-next c = omega (arith, c.loop-done-test.true)
 
 pub returns-in-Full : goal.returns-in-Full
+unfolding ending_number
 returns-in-Full c =
     let p = at-full _ _ _ _ _ _ _ _ _ _ _ _ _ _ _ c.loop-done.invariant c.loop-done-test.true (sym c.next-x.ensures ∙ c.in-Full.is) in record { value = c.ended.ensures ∙ p.0; out_after = (p.1).0; counts_after = (p.1).1 }
 
 pub returns-in-Outside : goal.returns-in-Outside
+unfolding ending_number number_of
 returns-in-Outside c =
     let p = at-outside _ _ _ _ _ _ _ _ _ _ _ _ _ _ _ c.loop-done.invariant c.loop-done-test.true (sym c.next-x.ensures ∙ c.in-Outside.is) in record { value = c.ended-in-Outside.ensures ∙ p.0; out_after = (p.1).0; counts_after = (p.1).1 }
 
@@ -78,6 +81,7 @@ loop-done-preserved c =
     ]
 
 pub returns : goal.returns
+unfolding ending_number
 returns c =
     let e : c.args.b.budget ≡ c.loop-done.done = omega (arith, c.loop-done.invariant.within, c.loop-done-test.false) in
     let p = at-spent _ _ _ _ _ _ _ _ _ _ _ _ _ _ _ c.loop-done.invariant c.loop-done-test.false in record { value = c.ended-2.ensures ∙ ap (told_of 36 c.loop-done.events) e ∙ p.0; out_after = (p.1).0; counts_after = (p.1).1 }

@@ -1,39 +1,29 @@
 -- `counting::rules_total` meets its contract.
 use mathlib.Core.List.{List}
-use mathlib.Core.Path.{sym, ap, ◌∙◌}
-use Prim.Native.Nat.{ℕ, ◌/◌}
+use mathlib.Core.Path.{ap, ◌∙◌}
 use native.Mathlib.Omega.{arith}
+use Prim.Native.Nat.{ℕ, ◌/◌}
 use lib.ListN.{length}
-use Rattle.counting.proofs.Rules.{told, no-rules, unsound-rules, the-rules, sound-sum}
-use Rattle.figures.proofs.Form.{length-numbers_at}
+use Rattle.std.specs.Prelude.{Err}
+use Rattle.std.proofs.lemmas.Result.{err_from_is_err_and}
+use Rattle.counting.proofs.Rules.{no-rules, the-rules, counts-sized, counts-fit}
+use Rattle.counting.specs.Counting.{totals}
 use Rattle.figures.specs.Figures.{sum}
 use Rattle.figures.specs.Spans.{span_totals, locations_at, bounded}
 use Rattle.machine.specs.Bytes.{words_of}
 use Rattle.counting.proofs.rules_total.Goals as goal
 
-pub returns-then-figures-ne-FIGURES_BYTES : goal.returns-then-figures-ne-FIGURES_BYTES
-returns-then-figures-ne-FIGURES_BYTES c =
-    let a = c.args in
-    told c.totalled.result 21 0 c.totalled.ensures ∙ no-rules a.figures.now a.rows.now a.end c.if-figures-ne-FIGURES_BYTES.true
-
-pub returns-then-not-is_sound : goal.returns-then-not-is_sound
-returns-then-not-is_sound c =
-    let a = c.args in
-    told c.totalled-then-not-is_sound.result 21 0 c.totalled-then-not-is_sound.ensures
-    ∙ unsound-rules a.figures.now a.rows.now a.end c.if-figures-ne-FIGURES_BYTES.false (sym c.is_sound.ensures ∙ c.if-not-is_sound.true)
+pub returns-in_err-read_figures : goal.returns-in_err-read_figures
+returns-in_err-read_figures c =
+    let x = err_from_is_err_and _ c.from_residual.ensures.1 in
+    ap totals (x.1 ∙ ap Err (x.2 ∙ c.in_err-read_figures.ensures.refused.0)) ∙ no-rules c.args.figures.now c.args.rows.now c.args.end c.in_err-read_figures.ensures.refused.1
 
 pub together-requires : goal.together-requires
-together-requires c =
-    let fs = c.args.figures.now in
-    let cs = c.counts_of-counts in (
-      ap (λ (l : List ℕ). length l) cs.ensures ∙ length-numbers_at (words_of fs) 0 4096,
-      (ap sum cs.ensures ∙ sound-sum fs (sym c.is_sound.ensures ∙ c.if-not-is_sound.false) ∙ sym c.number_at-total.ensures, omega arith),
-    )
+together-requires c = let n = c.in_ok-read_figures.ensures.named in (counts-sized n, (counts-fit n, omega arith))
 
 pub returns : goal.returns
 returns c =
-    let a = c.args in
-    let rows = a.rows.now in
-    let cs = c.counts_of-counts in
-    c.together.ensures ∙ ap (λ (l : List ℕ). bounded (sum (span_totals (locations_at (words_of rows) 0 (length rows / 24)) a.end l))) cs.ensures
-    ∙ the-rules a.figures.now rows a.end c.if-figures-ne-FIGURES_BYTES.false (sym c.is_sound.ensures ∙ c.if-not-is_sound.false)
+    let rows = c.args.rows.now in
+    let n = c.in_ok-read_figures.ensures.named in
+    c.together.ensures ∙ ap (λ (l : List ℕ). bounded (sum (span_totals (locations_at (words_of rows) 0 (length rows / 24)) c.args.end l))) n.counts_are
+    ∙ the-rules c.args.figures.now rows c.args.end n.long n.good

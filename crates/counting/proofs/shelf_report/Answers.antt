@@ -1,15 +1,17 @@
 -- `counting::shelf_report` meets its contract.
-use mathlib.Core.Path.{sym, ◌∙◌}
-use Rattle.counting.proofs.Adds.{no-figures, no-sound-figures, the-report}
+use mathlib.Core.Path.{ap, ◌∙◌}
+use Rattle.std.specs.Prelude.{Err}
+use Rattle.std.proofs.lemmas.Result.{err_from_is_err_and}
+use Rattle.counting.proofs.Adds.{no-report, the-report}
+use Rattle.counting.specs.Counting.{reports}
 use Rattle.counting.proofs.shelf_report.Goals as goal
 
-pub returns-then-figures-ne-FIGURES_BYTES : goal.returns-then-figures-ne-FIGURES_BYTES
-returns-then-figures-ne-FIGURES_BYTES c = c.no_report.ensures ∙ no-figures c.args.figures.now c.if-figures-ne-FIGURES_BYTES.true
-
-pub returns-then-not-is_sound : goal.returns-then-not-is_sound
-returns-then-not-is_sound c = c.no_report-then-not-is_sound.ensures ∙ no-sound-figures c.args.figures.now c.if-figures-ne-FIGURES_BYTES.false (sym c.is_sound.ensures ∙ c.if-not-is_sound.true)
+pub returns-in_err-sums : goal.returns-in_err-sums
+returns-in_err-sums c =
+    let x = err_from_is_err_and _ c.from_residual.ensures.1 in
+    ap reports (x.1 ∙ ap Err (x.2 ∙ c.in_err-sums.ensures.refused.0)) ∙ no-report c.args.figures.now c.in_err-sums.ensures.refused.1
 
 pub returns : goal.returns
 returns c =
-    the-report c.args.figures.now c.if-figures-ne-FIGURES_BYTES.false (sym c.is_sound.ensures ∙ c.if-not-is_sound.false) _ _ _ _ _
-    c.number_at-books.ensures c.number_at-total.ensures c.covered.ensures c.mean_of.ensures c.rest_of.ensures
+    let n = c.in_ok-sums.ensures.named in
+    the-report c.args.figures.now n.long n.good _ _ _ _ _ n.books_are n.total_is c.covered.ensures c.mean_of.ensures c.rest_of.ensures

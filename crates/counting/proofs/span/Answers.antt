@@ -39,7 +39,7 @@ sum_of-requires c =
     let counts = c.args.counts.now in
     let start = c.count_index-start.result in
     let end = c.count_index-end.result in
-    omega (arith, between counts start end c.min.result c.min.ensures, sum_drop (take end counts) start, sum-most counts end, c.requires.1, c.ranges.total)
+    omega (arith, between counts start end c.min.result c.min.ensures, sum_drop (take end counts) start, sum-most counts end, c.requires.1)
 
 pub returns : goal.returns
 returns c =

@@ -1,4 +1,4 @@
--- `counting::counts_of` meets its contract: after i turns the first i counts stand there.
+-- `counting::read_counts` meets its contract: after i turns the first i counts stand there.
 use mathlib.Core.Path.{◌≡◌, refl, sym, ◌∙◌}
 use Prim.Native.Nat.{◌+◌}
 use native.Mathlib.Numerals.{add-one}
@@ -9,7 +9,7 @@ use Rattle.figures.proofs.Form.{length-numbers_at, get_d-numbers_at}
 use Rattle.figures.specs.Form.{numbers_at}
 use Rattle.machine.specs.Bytes.{words_of}
 use borrow.Author.Rules.{rules}
-use Rattle.counting.proofs.counts_of.Goals as goal
+use Rattle.counting.proofs.read_counts.Goals as goal
 
 pub loop-i-init : goal.loop-i-init
 loop-i-init c = (search rules, (search rules, refl))
