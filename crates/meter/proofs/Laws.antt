@@ -9,8 +9,8 @@ use lib.ListN.{length}
 use Rattle.machine.specs.Decode.{input_choice, call_rule, choice, decode_two, decode}
 use Rattle.figure.specs.Figure.{at_start, leads_call}
 use Rattle.meter.specs.Makes.{over_at, back_at, Makes, makes_call_over, makes_call_back, makes_call_value, marks_call}
-use Rattle.meter.specs.Shaped.{index_of, start_of, end_of, InRule, is_choice, Fits, HasTable, by_token, by_result}
-use Rattle.meter.specs.Steps.{flag_of, called_of, Kept, Here, Steps, Only, only, Both, this, that, Raised, RaisedTwo, MakesAt, CallsHere, ValueAt, value_at, ValueHere, Values, values, Behind, behind_back, behind_value, ChoiceAt}
+use Rattle.meter.specs.Shaped.{Between, index_of, start_of, end_of, InRule, is_choice, Fits, HasTable, by_token, by_result}
+use Rattle.meter.specs.Steps.{flag_of, called_of, Kept, Here, Steps, Only, only, Both, this, that, Raised, RaisedTwo, MakesAt, CallsHere, ValueAt, value_at, ValueHere, Values, values, Behind, behind_back, behind_value}
 use Rattle.meter.proofs.Bounds.{index-start, next-to}
 use Rattle.meter.proofs.Words.{end-next, end-last}
 use Rattle.meter.proofs.Raising.{stays, seq, covers, may}
@@ -56,7 +56,20 @@ module _ {T S called rows : List ℕ} (kp : Kept T S called rows) where
   pub rule-small : {r l k : ℕ} → Here T S called r l k → r < 128
   rule-small h = omega (arith, h.is_rule, kp.shaped.few)
 
-  -- the rule that is called
+  -- the rule that is called: as many start before it as its index says
+  pub call-index : {r l k s q : ℕ} → Here T S called r l k → decode T l ≡ call_rule s → Between S s q q → q ≡ index_of S s
+  call-index {s = s} {q = q} h d b =
+      let i = index_of S s in
+      let f = kp.shaped.calls h.comes.is_rule h.comes.reached d in
+      let e = index-start S s f in
+      elim (dec_lt q i) [
+        | yes y ↦ absurd (omega (arith, e, kp.shaped.rising.rising y f, b.behind q (omega arith) (omega arith)))
+        | no n ↦ elim (dec_lt i q) [
+          | yes y ↦ absurd (omega (arith, e, b.before i y))
+          | no m ↦ omega arith
+        ]
+      ]
+
   pub called-here : {r l k s q : ℕ} → Here T S called r l k → decode T l ≡ call_rule s → q ≡ index_of S s → CallsHere T S called r l k q
   called-here {r} {l} {k} {s} {q} h d e =
       let f = kp.shaped.calls h.comes.is_rule h.comes.reached d in
@@ -64,9 +77,9 @@ module _ {T S called rows : List ℕ} (kp : Kept T S called rows) where
       let c : decode T l ≡ call_rule (start_of S q) = d ∙ ap call_rule (sym z) in
       record { here = h; calls = c; found = rw e f; is_index = ap (index_of S) z ∙ sym e }
 
-  pub behind-values : {c l k q : ℕ} {after : List ℕ} {b : Bool} → ChoiceAt T (l + 2) c → 0 < c → Steps T S (Values T S called c k q (end_of (length T) S q)) called rows after b → Steps T S (Behind T S called l k q) called rows after b
+  pub behind-values : {c l k q : ℕ} {after : List ℕ} {b : Bool} → decode T (l + 2) ≡ choice c → Steps T S (Values T S called c k q (end_of (length T) S q)) called rows after b → Steps T S (Behind T S called l k q) called rows after b
   unfolding is_choice
-  behind-values {c} {l} {k} {q} a h x = covers (λ i v m. ask (a.is_a_choice h) m) x
+  behind-values {c} {l} {k} {q} d x = covers (λ i v m. ask d m) x
     where
       ask : decode T (l + 2) ≡ choice c → {i v : ℕ} → Behind T S called l k q rows i v → Values T S called c k q (end_of (length T) S q) rows i v
       ask d (behind_back e z) = let y : ◌≡◌ {A = Bool} true false = rw d at e in never (sym y)
@@ -75,17 +88,16 @@ module _ {T S called rows : List ℕ} (kp : Kept T S called rows) where
           let m₁ : ValueAt T called c k _ rows i v = rw f at m in
           values y y.to m₁
 
-  pub behind-nothing : {c l k q m : ℕ} → ChoiceAt T (l + 2) c → c ≤ 0 → m ≡ called_of called rows (back_at q) → m ≡ 0 → Steps T S (Behind T S called l k q) called rows rows false
-  behind-nothing {c} {l} {k} {q} a h e z = stays kp (λ i v m. absurd (ask (a.no_choice (omega arith)) m))
+  pub behind-nothing : {l k q m : ℕ} → is_choice (decode T (l + 2)) ≡ false → m ≡ called_of called rows (back_at q) → m ≡ 0 → Steps T S (Behind T S called l k q) called rows rows false
+  behind-nothing {l} {k} {q} n e z = stays kp (λ i v m. absurd (ask n m))
     where
       ask : is_choice (decode T (l + 2)) ≡ false → {i v : ℕ} → Behind T S called l k q rows i v → ⊥
       ask n (behind_back y w) = omega arith
       ask n (behind_value d y w) = no_both T (l + 2) d n
 
-  pub behind-raised : {c r l k q m u : ℕ} {after : List ℕ} {b : Bool} → CallsHere T S called r l k q → ChoiceAt T (l + 2) c → c ≤ 0 → m ≡ called_of called rows (back_at q) → (m ≡ 0 → ⊥) → u ≡ k + m + 1
+  pub behind-raised : {r l k q m u : ℕ} {after : List ℕ} {b : Bool} → CallsHere T S called r l k q → is_choice (decode T (l + 2)) ≡ false → m ≡ called_of called rows (back_at q) → (m ≡ 0 → ⊥) → u ≡ k + m + 1
       → Raised (l + 2) u rows after b → Steps T S (Behind T S called l k q) called rows after b
-  behind-raised {c} {r} {l} {k} {q} {m} {u} {after} {b} h a o e z y x =
-      let n = a.no_choice (omega arith) in
+  behind-raised {r} {l} {k} {q} {m} {u} {after} {b} h n e z y x =
       let t : u ≡ k + called_of called rows (back_at q) + 1 = y ∙ ap (λ (i : ℕ). k + i + 1) e in
       let x₁ : Raised (l + 2) (k + called_of called rows (back_at q) + 1) rows after b = rw t at x in
       let i = h.is_index in

@@ -1,15 +1,17 @@
 -- Loops over the places of a rule, over the rules, and until nothing is raised.
 use mathlib.Core.Bool.{Bool, true, false, ◌||◌}
 use mathlib.Core.List.{List}
-use mathlib.Core.Path.{◌≡◌, refl, sym}
+use mathlib.Core.Path.{◌≡◌, refl, sym, ap, ◌∙◌}
 use native.Mathlib.Decide.{dec_lt}
 use native.Mathlib.Omega.{arith}
-use Prim.Native.Nat.{ℕ, ◌+◌, ◌*◌, ◌-◌, ◌≤◌, ◌<◌, min}
+use Prim.Native.Nat.{ℕ, ◌+◌, ◌*◌, ◌≤◌, ◌<◌, min}
 use lib.ListN.{length, get_or}
 use Rattle.base.specs.Bools.{never}
 use Rattle.meter.specs.Makes.{half, cap}
 use Rattle.meter.specs.Shaped.{start_of, end_of, InRule}
-use Rattle.meter.specs.Steps.{row_of, called_of, left, Kept, Steps, Both, this, that, ValueAt, value_at, Values, values, NoneCalled, AskedAt, AskedBelow, asked_below, AskedFrom, asked_from, Settled}
+use Rattle.meter.specs.Steps.{row_of, called_of, left, Kept, Steps, Both, this, that, ValueAt, value_at, Values, values, NoneCalled, AskedAt, AskedBelow, asked_below, AskedFrom, asked_from, rule_in, Settled}
+use Rattle.meter.specs.declared.Direction.{Direction}
+use Rattle.meter.specs.declared.Direction.TheVariants.{Down, Up}
 use Rattle.meter.proofs.Raising.{stays, seq, covers}
 
 -- The values of a rule
@@ -91,72 +93,61 @@ swept_all {T} {S} {called} {r} {to} {l} {rows} {after} {b} u h =
     let e : l ≡ end_of (length T) S r = omega (arith, u.upto, u.is-end) in
     rw (← e) u.steps
 
--- The rules, the last first
+-- The rules, in either order
 
-pub record RulesFrom (T S called : List ℕ) (r : ℕ) (rows after : List ℕ) (b : Bool) : Type 0 where
-  pub upto : r ≤ length S
-  pub steps : Steps T S (AskedFrom T S called r) called rows after b
+-- what the first n of them ask for
+pub data AskedIn (T S called : List ℕ) (d : Direction) (n : ℕ) (rows : List ℕ) (i v : ℕ) : Type 0 where
+  asked-in : {j l : ℕ} → j < n → InRule T S (rule_in d (length S) j) l → AskedAt T S called (rule_in d (length S) j) l rows i v → AskedIn T S called d n rows i v
 
-pub rules-first : {T S called rows : List ℕ} → Kept T S called rows → RulesFrom T S called (length S) rows rows false
-rules-first {T} {S} {called} {rows} kp = record { upto = omega arith; steps = stays kp (λ i v m. absurd (nothing m)) }
+pub record RulesIn (T S called : List ℕ) (d : Direction) (n : ℕ) (rows after : List ℕ) (b : Bool) : Type 0 where
+  pub upto : n ≤ length S
+  pub steps : Steps T S (AskedIn T S called d n) called rows after b
+
+pub rules-first : {T S called rows : List ℕ} {d : Direction} → Kept T S called rows → RulesIn T S called d 0 rows rows false
+rules-first {T} {S} {called} {rows} {d} kp = record { upto = omega arith; steps = stays kp (λ i v m. absurd (nothing m)) }
   where
-    nothing : {i v : ℕ} → AskedFrom T S called (length S) rows i v → ⊥
-    nothing (asked_from h l i m) = omega arith
+    nothing : {i v : ℕ} → AskedIn T S called d 0 rows i v → ⊥
+    nothing (asked-in h i m) = omega arith
 
-pub rules-next : {T S called : List ℕ} {r : ℕ} {rows mid after : List ℕ} {a b e : Bool} → RulesFrom T S called r rows mid a → 0 < r → Steps T S (AskedBelow T S called (r - 1) (end_of (length T) S (r - 1))) called mid after b → e ≡ (a || b)
-    → RulesFrom T S called (r - 1) rows after e
-rules-next {T} {S} {called} {r} u h x e = rw e (record { upto = omega (arith, u.upto); steps = covers (λ i v m. split m) (seq u.steps x) })
+pub rules-next : {T S called : List ℕ} {d : Direction} {n r : ℕ} {rows mid after : List ℕ} {a b e : Bool} → RulesIn T S called d n rows mid a → n < length S → r ≡ rule_in d (length S) n
+    → Steps T S (AskedBelow T S called r (end_of (length T) S r)) called mid after b → e ≡ (a || b) → RulesIn T S called d (n + 1) rows after e
+rules-next {T} {S} {called} {d} {n} {r} u h is x e = rw e (record { upto = omega (arith, u.upto); steps = covers (λ i v m. split m) (seq u.steps x) })
   where
-    split : {rows : List ℕ} {i v : ℕ} → AskedFrom T S called (r - 1) rows i v → Both (AskedFrom T S called r) (AskedBelow T S called (r - 1) (end_of (length T) S (r - 1))) rows i v
-    split {rows} {i} {v} (asked_from {r = o} {l = l} y z w m) = elim (dec_lt o r) [
-      | yes q ↦ let f : o ≡ r - 1 = omega arith in
-          let w₁ : InRule T S (r - 1) l = rw f at w in
-          let m₁ : AskedAt T S called (r - 1) l rows i v = rw f at m in
-          that (asked_below w₁ w₁.to m₁)
-      | no q ↦ this (asked_from {r = o} {l = l} (omega arith) z w m)
-    ]
-
-pub rules-all : {T S called : List ℕ} {r : ℕ} {rows after : List ℕ} {b : Bool} → RulesFrom T S called r rows after b → r ≤ 0 → Steps T S (AskedFrom T S called 0) called rows after b
-rules-all {r = r} u h = let e : r ≡ 0 = omega arith in rw e at u.steps
-
--- The rules, the first first
-
-pub data AskedBefore (T S called : List ℕ) (q : ℕ) (rows : List ℕ) (i v : ℕ) : Type 0 where
-  asked-before : {r l : ℕ} → r < q → InRule T S r l → AskedAt T S called r l rows i v → AskedBefore T S called q rows i v
-
-pub record RulesBefore (T S called : List ℕ) (r : ℕ) (rows after : List ℕ) (b : Bool) : Type 0 where
-  pub upto : r ≤ length S
-  pub steps : Steps T S (AskedBefore T S called r) called rows after b
-
-pub before-first : {T S called rows : List ℕ} → Kept T S called rows → RulesBefore T S called 0 rows rows false
-before-first {T} {S} {called} {rows} kp = record { upto = omega arith; steps = stays kp (λ i v m. absurd (nothing m)) }
-  where
-    nothing : {i v : ℕ} → AskedBefore T S called 0 rows i v → ⊥
-    nothing (asked-before h i m) = omega arith
-
-pub before-next : {T S called : List ℕ} {r : ℕ} {rows mid after : List ℕ} {a b e : Bool} → RulesBefore T S called r rows mid a → r < length S → Steps T S (AskedBelow T S called r (end_of (length T) S r)) called mid after b → e ≡ (a || b)
-    → RulesBefore T S called (r + 1) rows after e
-before-next {T} {S} {called} {r} u h x e = rw e (record { upto = omega arith; steps = covers (λ i v m. split m) (seq u.steps x) })
-  where
-    split : {rows : List ℕ} {i v : ℕ} → AskedBefore T S called (r + 1) rows i v → Both (AskedBefore T S called r) (AskedBelow T S called r (end_of (length T) S r)) rows i v
-    split {rows} {i} {v} (asked-before {r = o} {l = l} y w m) = elim (dec_lt o r) [
-      | yes q ↦ this (asked-before {r = o} {l = l} q w m)
-      | no q ↦ let f : o ≡ r = omega arith in
-          let w₁ : InRule T S r l = rw f at w in
-          let m₁ : AskedAt T S called r l rows i v = rw f at m in
+    split : {rows : List ℕ} {i v : ℕ} → AskedIn T S called d (n + 1) rows i v → Both (AskedIn T S called d n) (AskedBelow T S called r (end_of (length T) S r)) rows i v
+    split {rows} {i} {v} (asked-in {j = j} {l = l} y w m) = elim (dec_lt j n) [
+      | yes q ↦ this (asked-in {j = j} {l = l} q w m)
+      | no q ↦ let f : j ≡ n = omega arith in
+          let g : rule_in d (length S) j ≡ r = ap (rule_in d (length S)) f ∙ sym is in
+          let w₁ : InRule T S r l = rw g at w in
+          let m₁ : AskedAt T S called r l rows i v = rw g at m in
           that (asked_below w₁ w₁.to m₁)
     ]
 
-pub before-all : {T S called : List ℕ} {r : ℕ} {rows after : List ℕ} {b : Bool} → RulesBefore T S called r rows after b → length S ≤ r → Steps T S (AskedFrom T S called 0) called rows after b
-before-all {T} {S} {called} {r} u h = covers (λ i v m. ask m) u.steps
+-- the turn in which a rule comes
+turn-of : (d : Direction) (n r : ℕ) → r < n → (rule_in d n r < n) × (rule_in d n (rule_in d n r) ≡ r)
+turn-of Down n r h = (omega arith, omega arith)
+turn-of Up n r h = (h, refl)
+
+pub rule-within : (d : Direction) {n i r : ℕ} → r ≡ rule_in d n i → i < n → r < n
+rule-within d {n} {i} e h = let t = (turn-of d n i h).0 in omega (arith, e, t)
+
+pub rules-all : {T S called : List ℕ} {d : Direction} {n : ℕ} {rows after : List ℕ} {b : Bool} → RulesIn T S called d n rows after b → length S ≤ n → Steps T S (AskedFrom T S called 0) called rows after b
+rules-all {T} {S} {called} {d} {n} u h = covers (λ i v m. ask m) u.steps
   where
-    ask : {rows : List ℕ} {i v : ℕ} → AskedFrom T S called 0 rows i v → AskedBefore T S called r rows i v
-    ask (asked_from {r = o} {l = l} y z w m) = asked-before {r = o} {l = l} (omega arith) w m
+    ask : {rows : List ℕ} {i v : ℕ} → AskedFrom T S called 0 rows i v → AskedIn T S called d n rows i v
+    ask {rows} {i} {v} (asked_from {r = o} {l = l} y z w m) =
+        let t = turn-of d (length S) o z in
+        let w₁ : InRule T S (rule_in d (length S) (rule_in d (length S) o)) l = rw (t.1) w in
+        let m₁ : AskedAt T S called (rule_in d (length S) (rule_in d (length S) o)) l rows i v = rw (t.1) m in
+        asked-in {j = rule_in d (length S) o} {l = l} (omega (arith, t.0)) w₁ m₁
 
 -- Sweeps of some rules, of which nothing is known but what they keep
 
 pub none-asked : {T S called rows : List ℕ} → Kept T S called rows → Steps T S (AskedFrom T S called (length S)) called rows rows false
-none-asked k = (rules-first k).steps
+none-asked {T} {S} {called} {rows} k = stays k (λ i v m. absurd (nothing m))
+  where
+    nothing : {i v : ℕ} → AskedFrom T S called (length S) rows i v → ⊥
+    nothing (asked_from h l i m) = omega arith
 
 pub some-swept : {T S called : List ℕ} {r : ℕ} {rows after : List ℕ} {b : Bool} → Steps T S (AskedBelow T S called r (end_of (length T) S r)) called rows after b → Steps T S (AskedFrom T S called (length S)) called rows after b
 some-swept {T} {S} {called} x = covers (λ i v m. absurd (nothing m)) x

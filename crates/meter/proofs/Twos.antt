@@ -7,6 +7,7 @@ use native.Mathlib.Numerals.{add-one}
 use native.Mathlib.Omega.{arith}
 use Prim.Native.Nat.{ℕ, suc, ◌+◌, ◌-◌, ◌<◌}
 use lib.ListN.{length}
+use Rattle.std.specs.Prelude.{Some, None}
 use Rattle.events.specs.Events.{Event}
 use Rattle.loading.proofs.Members.{fetch-inside}
 use Rattle.machine.proofs.Decoded.{of-operation, of_one, of_two, of-decode}
@@ -102,23 +103,20 @@ two-no-choice : (l i x : ℕ) → (i ≡ 11 → ⊥) → is_choice (decode_two l
 unfolding is_choice
 two-no-choice l i x n = of_two (λ j. is_choice j ≡ false) l i x (λ _ _. refl) (λ _ _. refl) (λ _. refl) (λ _. refl) (λ _. refl) (λ _ _ _. refl) (λ _. refl) (λ _. refl) (λ e. absurd (n e)) refl
 
-no-choice-at : (T : List ℕ) (l : ℕ) → ((i x : ℕ) → fetch T l ≡ some i → fetch T (suc l) ≡ some x → i ≡ 11 → ⊥) → ChoiceAt T l 0
+no-choice-at : (T : List ℕ) (l : ℕ) → ((i x : ℕ) → fetch T l ≡ some i → fetch T (suc l) ≡ some x → i ≡ 11 → ⊥) → ChoiceAt T l None
 unfolding is_choice
-no-choice-at T l f = record {
-  no_choice = λ e. of-decode (λ j. is_choice j ≡ false) T l refl (λ i _. one-no-choice i) (λ i x a b. two-no-choice l i x (f i x a b));
-  is_a_choice = λ h. absurd (omega arith);
-}
+no-choice-at T l f = of-decode (λ j. is_choice j ≡ false) T l refl (λ i _. one-no-choice i) (λ i x a b. two-no-choice l i x (f i x a b))
 
-pub choice-other : (T : List ℕ) (l : ℕ) {i : ℕ} → fetch T l ≡ some i → (i ≡ 11 → ⊥) → ChoiceAt T l 0
+pub choice-other : (T : List ℕ) (l : ℕ) {i : ℕ} → fetch T l ≡ some i → (i ≡ 11 → ⊥) → ChoiceAt T l None
 choice-other T l f n = no-choice-at T l (λ j x a _ e. n cc)
 
-pub choice-cut : (T : List ℕ) (l : ℕ) → length T < l + 1 → ChoiceAt T l 0
+pub choice-cut : (T : List ℕ) (l : ℕ) → length T < l + 1 → ChoiceAt T l None
 choice-cut T l h = no-choice-at T l (λ i x _ b _. omega (arith, (fetch-inside T (suc l) (rw b refl)).1))
 
-pub choice-here : (T : List ℕ) (l : ℕ) {i x c : ℕ} → fetch T l ≡ some i → i ≡ 11 → fetch T (l + 1) ≡ some x → c ≡ l + 1 + x → ChoiceAt T l c
+pub choice-here : (T : List ℕ) (l : ℕ) {i x c : ℕ} → fetch T l ≡ some i → i ≡ 11 → fetch T (l + 1) ≡ some x → c ≡ l + 1 + x → ChoiceAt T l (Some c)
 unfolding decode decode_at decode_word decode_two length_of lengths
 choice-here T l {i} {x} f e g z =
     let f₁ : fetch T l ≡ some 11 = f ∙ ap some e in
     let g₁ : fetch T (suc l) ≡ some x = rw (add-one l) at g in
     let d : decode T l ≡ choice (l + 1 + x) = rw (f₁, g₁) refl in
-    record { no_choice = λ y. absurd (omega arith); is_a_choice = λ h. rw z d }
+    rw z d

@@ -2,6 +2,9 @@
 -- call adds, while the second is raised; none while the first itself is raised.
 use Rattle.std.specs.Prelude.{Bool, true, false, List, [], ◌∷◌, ◌≡◌, ℕ, ◌+◌, ◌*◌, ◌-◌, ◌≤◌, ◌<◌, min, length, get_or}
 use Rattle.std.proofs.Math.Option.{Option, some}
+use Rattle.std.specs.Prelude as found
+use Rattle.meter.specs.declared.Direction.{Direction}
+use Rattle.meter.specs.declared.Direction.TheVariants.{Down, Up}
 use Rattle.machine.specs.Decode.{fetch, Instruction, input_choice, call_rule, set_result, choice, decode}
 use Rattle.meter.specs.Makes.{back_at, half, cap, Makes, Comes, Sound, Stands}
 use Rattle.figure.specs.Figure.{way_out}
@@ -135,10 +138,10 @@ pub data Behind (T S called : List ℕ) (l k q : ℕ) (rows : List ℕ) : ℕ �
   behind_back : is_choice (decode T (l + 2)) ≡ false → 0 < called_of called rows (back_at q) → Behind T S called l k q rows (l + 2) (k + called_of called rows (back_at q) + 1)
   behind_value : {c p i v : ℕ} → decode T (l + 2) ≡ choice c → InRule T S q p → ValueAt T called c k p rows i v → Behind T S called l k q rows i v
 
--- a choice stands at l, with its table at c; 0 where none does
-pub record ChoiceAt (T : List ℕ) (l c : ℕ) : Type 0 where
-  pub no_choice : c ≡ 0 → is_choice (decode T l) ≡ false
-  pub is_a_choice : 0 < c → decode T l ≡ choice c
+-- a choice stands at l, with its table at c, or none does
+abbrev pub ChoiceAt : List ℕ → ℕ → found.Option ℕ → Type 0
+ChoiceAt T l found.None = is_choice (decode T l) ≡ false
+ChoiceAt T l (found.Some c) = decode T l ≡ choice c
 
 -- what a location of a rule asks for
 pub data AskedAt (T S called : List ℕ) (r l : ℕ) (rows : List ℕ) (i v : ℕ) : Type 0 where
@@ -151,6 +154,11 @@ pub data AskedBelow (T S called : List ℕ) (r m : ℕ) (rows : List ℕ) (i v :
 -- and those of all rules from q on
 pub data AskedFrom (T S called : List ℕ) (q : ℕ) (rows : List ℕ) (i v : ℕ) : Type 0 where
   asked_from : {r l : ℕ} → q ≤ r → r < length S → InRule T S r l → AskedAt T S called r l rows i v → AskedFrom T S called q rows i v
+
+-- the rule that comes i-th of n
+abbrev pub rule_in : Direction → ℕ → ℕ → ℕ
+rule_in Down n i = n - 1 - i
+rule_in Up n i = i
 
 -- the numbers from one place to another are 0
 pub record ZeroIn (ns : List ℕ) (from to : ℕ) : Type 0 where

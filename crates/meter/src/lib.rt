@@ -3,10 +3,10 @@
 // There are two halves of them: the first begins at the rules' starts and says what a call adds; the second begins at every instruction that can be reached.
 #![tactic(auto)]
 
-ghost use Rattle.std.specs.Prelude.{◌≡◌, true, ◌||◌, ◌+◌, ◌*◌, ◌-◌, ◌<◌, ◌≤◌, min, length, get_or, set, replicate};
+ghost use Rattle.std.specs.Prelude.{◌≡◌, true, ◌||◌, ◌+◌, ◌*◌, ◌-◌, ◌<◌, ◌≤◌, min, length, get_or, set, replicate, unwrap_or, IfSome};
 ghost use Rattle.std.proofs.Math.Option.{none, some};
 ghost use Rattle.machine.specs.Bytes.{table_of};
-ghost use Rattle.meter.specs.Steps.{flag_of, called_of, Kept, Here, Steps, IsBelow, Raised, LabelRaised, MakesAt, RaisedTwo, WaysRaised, Visited, TokenVisited, ValueAt, ValueHere, CallsHere, Values, Behind, ChoiceAt, AskedAt, AskedBelow, AskedFrom, Greatest, ZeroIn, NoneCalled, Begun, Settled};
+ghost use Rattle.meter.specs.Steps.{flag_of, called_of, Kept, Here, Steps, IsBelow, Raised, LabelRaised, MakesAt, RaisedTwo, WaysRaised, Visited, TokenVisited, ValueAt, ValueHere, CallsHere, Values, Behind, ChoiceAt, AskedAt, AskedBelow, AskedFrom, Greatest, ZeroIn, NoneCalled, Begun, Settled, rule_in};
 ghost use Rattle.machine.specs.Decode.{call_rule, choice, decode_one, decode_two, decode};
 ghost use Rattle.meter.specs.Shaped.{Rising, Between, index_of, end_of, InRule, Fits, Shaped};
 ghost use Rattle.meter.specs.Found.{Found};
@@ -83,10 +83,7 @@ fn is_below(rows: &[u32], i: usize, v: u64) -> bool
     requires { length rows.now ≡ 4490 }
     ensures { IsBelow i v (numbers_of rows.now) result }
 {
-    if HALF <= i {
-        return false;
-    }
-    number(rows, i) < capped(v)
+    i < HALF && number(rows, i) < capped(v)
 }
 
 // A number is raised, where it is less.
@@ -127,16 +124,18 @@ fn starts_before(starts: &[usize], s: usize) -> usize
     starts.partition_point(|start| *start < s)
 }
 
-// Which rule starts at a location; their number where none does.
-fn rule_at(starts: &[usize], s: usize) -> usize
+// Which rule starts at a location.
+fn rule_at(starts: &[usize], s: usize) -> Option<usize>
     requires { Rising starts.now }
-    ensures { result ≡ index_of starts.now s }
+    ensures index { unwrap_or result (length starts.now) ≡ index_of starts.now s }
+    ensures within { IfSome result (λ r. r < length starts.now) }
 {
     let r = starts_before(starts, s);
-    if starts.len() <= r {
-        return r;
+    if r < starts.len() && starts[r] == s {
+        Some(r)
+    } else {
+        None
     }
-    if starts[r] == s { r } else { starts.len() }
 }
 
 // Where the words of a rule end.
@@ -180,11 +179,7 @@ fn raise_label(table: &[u8], c: usize, i: usize, v: u64, rows: &mut [u32]) -> bo
 {
     let l = c + 1 + 2 * i;
     let beside = (l + 1).saturating_sub(loader::word_at(table, l + 1));
-    if is_below(rows, beside, v) {
-        let way = way_out(table, c, loader::word_at(table, l));
-        return raise(rows, way, v);
-    }
-    false
+    is_below(rows, beside, v) && raise(rows, way_out(table, c, loader::word_at(table, l)), v)
 }
 
 // Every way out of the choice with its table at c.
@@ -259,10 +254,7 @@ fn raise_value(
     requires { Kept (table_of table.now) starts.now (called_numbers called.now) (numbers_of rows.old) × ValueHere (table_of table.now) starts.now (called_numbers called.now) here.rule here.at here.number c p × (length rows.old ≡ 4490) }
     ensures { Steps (table_of table.now) starts.now (ValueAt (table_of table.now) (called_numbers called.now) c here.number p) (called_numbers called.now) (numbers_of rows.old) (numbers_of rows.new) result }
 {
-    if loader::word_at(table, p) != SET_RESULT {
-        return false;
-    }
-    if loader::size_of(table) <= p {
+    if loader::word_at(table, p) != SET_RESULT || loader::size_of(table) <= p {
         return false;
     }
     let m = called_number(called, rows, p);
@@ -289,66 +281,41 @@ fn is_clear(rows: &[u32], i: usize) -> bool
     clear
 }
 
-// Past numbers that are 0, from i on and before an end: as many at once as have their bits in one word, or one, or none.
+// Past numbers that are 0, from i on and before an end: those that have their bits in one word, or none.
 fn past_zeros(rows: &[u32], i: usize, to: usize) -> usize
     requires { (length rows.now ≡ 4490) × (i < to) }
     ensures { (i ≤ result) × (result ≤ to) × ZeroIn (numbers_of rows.now) i result }
 {
-    if i < LAST_WORD {
-        if is_clear(rows, i) {
-            if to < i + WORD_BITS {
-                return to;
-            }
-            return i + WORD_BITS;
-        }
+    if i < LAST_WORD && is_clear(rows, i) {
+        to.min(i + WORD_BITS)
+    } else {
+        i
     }
-    if number(rows, i) == 0 {
-        return i + 1;
-    }
-    i
-}
-
-// The first place from i on, before an end, with a number; the end where none has one.
-#[inline(always)]
-fn next_numbered(rows: &[u32], i: usize, to: usize) -> usize
-    requires { (length rows.now ≡ 4490) × (i ≤ to) }
-    ensures { (i ≤ result) × (result ≤ to) × ZeroIn (numbers_of rows.now) i result }
-{
-    let mut at = i;
-    // no range: a step is as long as its zeros
-    while at < to {
-        let next = past_zeros(rows, at, to);
-        if next == at {
-            return at;
-        }
-        at = next;
-    }
-    at
 }
 
 // The same among the numbers of called rules.
-fn next_called(called: &[u32], rows: &[u32], i: usize, to: usize) -> usize
-    requires { (length rows.now ≡ 4490) × (i ≤ to) }
+#[inline(always)]
+fn past_called(called: &[u32], rows: &[u32], i: usize, to: usize) -> usize
+    requires { (length rows.now ≡ 4490) × (i < to) }
     ensures { (i ≤ result) × (result ≤ to) × NoneCalled (called_numbers called.now) (numbers_of rows.now) i result }
 {
     if called.len() == ROWS {
-        return next_numbered(called, i, to);
+        past_zeros(called, i, to)
+    } else {
+        past_zeros(rows, i, to)
     }
-    next_numbered(rows, i, to)
 }
 
-// The location of the table of the choice at l; 0 where no choice stands.
-fn choice_at(table: &[u8], l: usize) -> usize
+// The location of the table of the choice at l.
+fn choice_at(table: &[u8], l: usize) -> Option<usize>
     requires { (1 ≤ l) × (l < 10000) }
     ensures { ChoiceAt (table_of table.now) l result }
 {
-    if loader::size_of(table) < l + 1 {
-        return 0;
+    if l < loader::size_of(table) && loader::word_at(table, l) == CHOICE {
+        Some(l + 1 + loader::word_at(table, l + 1))
+    } else {
+        None
     }
-    if loader::word_at(table, l) != CHOICE {
-        return 0;
-    }
-    l + 1 + loader::word_at(table, l + 1)
 }
 
 // The same for each value with which rule q can be back.
@@ -368,11 +335,16 @@ fn raise_values(
     let to = end_of(starts, q, loader::size_of(table));
     let mut changed = false;
     let mut p = starts[q];
-    // no range: places with no number are passed over
+    // no range: numbers that are 0 are passed over, many at once
     while p < to {
-        let more = raise_value(table, starts, p, c, called, here, rows);
-        changed |= more;
-        p = next_called(called, rows, p + 1, to);
+        let next = past_called(called, rows, p, to);
+        if next == p {
+            let more = raise_value(table, starts, p, c, called, here, rows);
+            changed |= more;
+            p += 1;
+        } else {
+            p = next;
+        }
     }
     changed
 }
@@ -390,8 +362,7 @@ fn raise_behind(
     ensures { Steps (table_of table.now) starts.now (Behind (table_of table.now) starts.now (called_numbers called.now) here.at here.number q) (called_numbers called.now) (numbers_of rows.old) (numbers_of rows.new) result }
 {
     let next = here.at + 2;
-    let c = choice_at(table, next);
-    if 0 < c {
+    if let Some(c) = choice_at(table, next) {
         return raise_values(table, starts, q, c, called, here, rows);
     }
     let m = called_number(called, rows, BACK + q);
@@ -413,7 +384,8 @@ fn raise_call(
     requires { Kept (table_of table.now) starts.now (called_numbers called.now) (numbers_of rows.old) × Here (table_of table.now) starts.now (called_numbers called.now) here.rule here.at here.number × (decode (table_of table.now) here.at ≡ call_rule s) × (length rows.old ≡ 4490) }
     ensures { Steps (table_of table.now) starts.now (MakesAt (table_of table.now) starts.now (called_numbers called.now) here.rule here.at here.number (call_rule s)) (called_numbers called.now) (numbers_of rows.old) (numbers_of rows.new) result }
 {
-    let q = rule_at(starts, s);
+    // a rule starts there
+    let q = starts_before(starts, s);
     let o = here.number + called_number(called, rows, OVER + q);
     let a = raise_two(rows, OVER + here.rule, o, here.at + 2, mark_of(called));
     let b = raise_behind(table, starts, q, called, here, rows);
@@ -458,11 +430,8 @@ fn visit(
     requires { Kept (table_of table.now) starts.now (called_numbers called.now) (numbers_of rows.old) × (rule < length starts.now) × InRule (table_of table.now) starts.now rule at × (length rows.old ≡ 4490) }
     ensures { Steps (table_of table.now) starts.now (AskedAt (table_of table.now) starts.now (called_numbers called.now) rule at) (called_numbers called.now) (numbers_of rows.old) (numbers_of rows.new) result }
 {
-    if at == 0 {
-        return false;
-    }
     let size = loader::size_of(table);
-    if size < at {
+    if at == 0 || size < at {
         return false;
     }
     let number = number(rows, at);
@@ -499,82 +468,74 @@ fn sweep_rule(table: &[u8], starts: &[usize], r: usize, called: &[u32], rows: &m
     changed
 }
 
-// One sweep over all rules, the last first.
-fn sweep_down(table: &[u8], starts: &[usize], called: &[u32], rows: &mut [u32]) -> bool
+// Which way a sweep goes over the rules: down is good for rules that call later ones, up for those that call earlier ones.
+#[derive(Clone, Copy, Debug, PartialEq, Eq)]
+enum Direction {
+    Down,
+    Up,
+}
+
+impl Direction {
+    fn opposite(self) -> Direction {
+        match self {
+            Direction::Down => Direction::Up,
+            Direction::Up => Direction::Down,
+        }
+    }
+
+    // The rule that comes i-th, of n.
+    fn rule(self, n: usize, i: usize) -> usize
+        requires { i < n }
+        ensures { result ≡ rule_in self n i }
+    {
+        match self {
+            Direction::Down => n - 1 - i,
+            Direction::Up => i,
+        }
+    }
+}
+
+// One sweep over all rules.
+fn sweep(
+    table: &[u8],
+    starts: &[usize],
+    called: &[u32],
+    direction: Direction,
+    rows: &mut [u32],
+) -> bool
     requires { Kept (table_of table.now) starts.now (called_numbers called.now) (numbers_of rows.old) × (length rows.old ≡ 4490) }
     ensures { Steps (table_of table.now) starts.now (AskedFrom (table_of table.now) starts.now (called_numbers called.now) 0) (called_numbers called.now) (numbers_of rows.old) (numbers_of rows.new) result }
 {
     let mut changed = false;
-    for r in (0..starts.len()).rev() {
+    for i in 0..starts.len() {
+        let r = direction.rule(starts.len(), i);
         let more = sweep_rule(table, starts, r, called, rows);
         changed |= more;
     }
     changed
-}
-
-// One sweep over all rules, the first first.
-fn sweep_up(table: &[u8], starts: &[usize], called: &[u32], rows: &mut [u32]) -> bool
-    requires { Kept (table_of table.now) starts.now (called_numbers called.now) (numbers_of rows.old) × (length rows.old ≡ 4490) }
-    ensures { Steps (table_of table.now) starts.now (AskedFrom (table_of table.now) starts.now (called_numbers called.now) 0) (called_numbers called.now) (numbers_of rows.old) (numbers_of rows.new) result }
-{
-    let mut changed = false;
-    for r in 0..starts.len() {
-        let more = sweep_rule(table, starts, r, called, rows);
-        changed |= more;
-    }
-    changed
-}
-
-// One sweep: down is good for rules that call later ones, up for those that call earlier ones.
-fn sweep(table: &[u8], starts: &[usize], called: &[u32], up: bool, rows: &mut [u32]) -> bool
-    requires { Kept (table_of table.now) starts.now (called_numbers called.now) (numbers_of rows.old) × (length rows.old ≡ 4490) }
-    ensures { Steps (table_of table.now) starts.now (AskedFrom (table_of table.now) starts.now (called_numbers called.now) 0) (called_numbers called.now) (numbers_of rows.old) (numbers_of rows.new) result }
-{
-    if up {
-        sweep_up(table, starts, called, rows)
-    } else {
-        sweep_down(table, starts, called, rows)
-    }
 }
 
 // A set of rules, a bit for each.
-#[derive(Clone, Copy, Debug, PartialEq, Eq)]
-struct Due {
-    lo: u64,
-    hi: u64,
-}
+type Due = u128;
 
-const NONE_DUE: Due = Due { lo: 0, hi: 0 };
+const NONE_DUE: Due = 0;
+
+const ALL_DUE: Due = u128::MAX;
 
 // Rounds end long before there are so many.
 const MOST_ROUNDS: usize = 10000;
 
 fn is_due(d: Due, r: usize) -> bool {
-    match r {
-        0..=63 => (d.lo >> r) & 1 == 1,
-        64..=127 => (d.hi >> (r - 64)) & 1 == 1,
-        _ => false,
-    }
+    r < base::RULES && (d >> r) & 1 == 1
 }
 
 // The set, with r where it is to be.
 fn with_due(d: Due, r: usize, on: bool) -> Due {
-    if !on {
-        return d;
+    if on && r < base::RULES {
+        d | (1 << r)
+    } else {
+        d
     }
-    if r < 64 {
-        return Due {
-            lo: d.lo | (1 << r),
-            ..d
-        };
-    }
-    if r < 128 {
-        return Due {
-            hi: d.hi | (1 << (r - 64)),
-            ..d
-        };
-    }
-    d
 }
 
 // The rules that rounds have raised: in the round before, and in this one so far.
@@ -593,11 +554,13 @@ fn is_changed(s: Raisings, q: usize, r: usize) -> bool {
 fn calls_changed(table: &[u8], starts: &[usize], s: Raisings, r: usize, l: usize) -> bool
     requires { Rising starts.now × (1 ≤ l) × (l < length (table_of table.now)) × (length (table_of table.now) ≤ 4096) }
 {
-    if loader::word_at(table, l) == CALL {
-        let q = rule_at(starts, loader::word_at(table, l + 1));
-        return is_changed(s, q, r);
+    if loader::word_at(table, l) != CALL {
+        return false;
     }
-    false
+    match rule_at(starts, loader::word_at(table, l + 1)) {
+        Some(q) => is_changed(s, q, r),
+        None => false,
+    }
 }
 
 // Where a rule starts, 1 at least.
@@ -687,10 +650,7 @@ fn rounds(table: &[u8], starts: &[usize], called: &[u32], rows: &mut [u32]) -> b
     ensures { Steps (table_of table.now) starts.now (AskedFrom (table_of table.now) starts.now (called_numbers called.now) (length starts.now)) (called_numbers called.now) (numbers_of rows.old) (numbers_of rows.new) result }
 {
     let mut changed = false;
-    let mut due = Due {
-        lo: u64::MAX,
-        hi: u64::MAX,
-    };
+    let mut due = ALL_DUE;
     for _ in 0..MOST_ROUNDS {
         let t = round(table, starts, called, due, rows);
         changed |= t.changed;
@@ -716,13 +676,13 @@ fn settle(table: &[u8], starts: &[usize], called: &[u32], rows: &mut [u32])
     ensures { Settled (table_of table.now) starts.now (called_numbers called.now) (numbers_of rows.old) (numbers_of rows.new) }
 {
     let mut changed = true;
-    let mut up = false;
+    let mut direction = Direction::Down;
     let mut early = 5usize;
     // no range: until a sweep raises nothing
     while changed {
         rounds_if(table, starts, called, early == 0, rows);
-        changed = sweep(table, starts, called, up, rows);
-        up = !up;
+        changed = sweep(table, starts, called, direction, rows);
+        direction = direction.opposite();
         early = early.saturating_sub(1);
     }
 }

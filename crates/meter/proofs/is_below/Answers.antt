@@ -1,11 +1,10 @@
-use borrow.Author.Rules.{rules}
+-- `meter::is_below` meets its contract.
+use borrow.Author.Tests.{le-ltb}
 use Rattle.meter.proofs.Raising.{below-past, below-test}
 use Rattle.meter.proofs.is_below.Goals as goal
 
--- src/lib.rt:110:9
-pub returns-then-i-ge-HALF : goal.returns-then-i-ge-HALF
-returns-then-i-ge-HALF c = below-past c.if-i-ge-HALF.true
+pub returns-then-i-lt-HALF : goal.returns-then-i-lt-HALF
+returns-then-i-lt-HALF c = below-test c.if-i-lt-HALF.true c.number.ensures c.capped.ensures
 
--- src/lib.rt:105:1
-pub returns : goal.returns
-returns c = below-test (search rules) c.number.ensures c.capped.ensures
+pub returns-else-i-lt-HALF : goal.returns-else-i-lt-HALF
+returns-else-i-lt-HALF c = rw (le-ltb c.args.i 4353 c.if-i-lt-HALF.false) (below-past c.if-i-lt-HALF.false)

@@ -7,20 +7,20 @@ use Rattle.meter.proofs.raise_behind.Goals as goal
 pub overflow_add-next : goal.overflow_add-next
 overflow_add-next c = omega (arith, (here-inside c.requires.0 c.requires.1.here).1)
 
-pub choice_at-c-requires : goal.choice_at-c-requires
-choice_at-c-requires c = (omega arith, omega (arith, (here-inside c.requires.0 c.requires.1.here).1))
+pub choice_at-requires : goal.choice_at-requires
+choice_at-requires c = (omega arith, omega (arith, (here-inside c.requires.0 c.requires.1.here).1))
 
 pub raise_values-requires : goal.raise_values-requires
-raise_values-requires c = (c.requires.0, c.requires.1, c.choice_at-c.ensures.is_a_choice c.if-c-gt0.true, c.requires.2)
+raise_values-requires c = (c.requires.0, c.requires.1, c.in-Some.ensures, c.requires.2)
 
-pub returns-then-c-gt0 : goal.returns-then-c-gt0
-returns-then-c-gt0 c = behind-values c.requires.0 c.choice_at-c.ensures c.if-c-gt0.true c.raise_values.ensures
+pub returns-in-Some : goal.returns-in-Some
+returns-in-Some c = behind-values c.requires.0 c.in-Some.ensures c.raise_values.ensures
 
 pub overflow_add-q : goal.overflow_add-q
 overflow_add-q c = omega (arith, c.requires.1.found, c.requires.0.shaped.few)
 
 pub returns-then-m-eq0 : goal.returns-then-m-eq0
-returns-then-m-eq0 c = behind-nothing c.requires.0 c.choice_at-c.ensures c.if-c-gt0.false c.called_number-m.ensures c.if-m-eq0.true
+returns-then-m-eq0 c = behind-nothing c.requires.0 c.in_default.ensures c.called_number-m.ensures c.if-m-eq0.true
 
 pub overflow_add-here : goal.overflow_add-here
 overflow_add-here c = omega (arith, c.called_number-m.ensures, c.requires.0.called_small (4225 + c.args.q), c.requires.1.here.small)
@@ -32,4 +32,4 @@ pub raise-requires : goal.raise-requires
 raise-requires c = c.requires.2
 
 pub returns : goal.returns
-returns c = behind-raised c.requires.0 c.requires.1 c.choice_at-c.ensures c.if-c-gt0.false c.called_number-m.ensures c.if-m-eq0.false refl c.raise.ensures
+returns c = behind-raised c.requires.0 c.requires.1 c.in_default.ensures c.called_number-m.ensures c.if-m-eq0.false refl c.raise.ensures

@@ -25,8 +25,8 @@ overflow_add-l-4 c = omega (arith, length-table_of c.args.table.now)
 
 -- src/lib.rt:231:9
 pub returns-then-is_below : goal.returns-then-is_below
-returns-then-is_below c = label-raised c.word_at-then-is_below.ensures.0 c.way_out-way.ensures c.raise.ensures
+returns-then-is_below c = label-raised c.word_at-then-is_below.ensures.0 c.way_out.ensures c.raise.ensures
 
 -- src/lib.rt:223:1
-pub returns : goal.returns
-returns c = label-enough c.word_at.ensures.0 c.saturating_sub-beside.ensures c.is_below.ensures c.if-is_below.false
+pub returns-else-is_below : goal.returns-else-is_below
+returns-else-is_below c = rw c.if-is_below.false (label-enough c.word_at.ensures.0 c.saturating_sub-beside.ensures c.is_below.ensures c.if-is_below.false)

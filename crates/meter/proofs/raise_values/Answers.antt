@@ -25,19 +25,13 @@ loop-p-init c = (values-first c.requires.0 (omega (arith, start-end c.requires.0
 pub raise_value-more-requires : goal.raise_value-more-requires
 raise_value-more-requires c = (c.loop-p.invariant.0.steps.kept, record { rule = c.args.q; here = c.requires.1; chooses = c.requires.2; in_rule = record { from = c.loop-p.invariant.0.from; to = omega (arith, c.loop-p-test.true, c.loop-p.invariant.0.is-end) } }, c.loop-p.invariant.1)
 
-pub overflow_add-p : goal.overflow_add-p
-overflow_add-p c = omega arith
-
-pub next_called-p-requires : goal.next_called-p-requires
-next_called-p-requires c = (search rules, omega arith)
-
--- src/lib.rt:284:5
-pub loop-p-smaller : goal.loop-p-smaller
-loop-p-smaller c = omega (arith, c.next_called-p.ensures.0, c.next_called-p.ensures.1)
-
--- src/lib.rt:284:5
 pub loop-p-preserved : goal.loop-p-preserved
-loop-p-preserved c = (values-past (values-next c.loop-p.invariant.0 (search rules) c.raise_value-more.ensures refl) c.next_called-p.ensures.0 c.next_called-p.ensures.1 c.next_called-p.ensures.2, search rules)
+loop-p-preserved c =
+    let z = c.past_called-next.ensures in
+    (values-past c.loop-p.invariant.0 z.0 z.1 z.2, search rules)
+
+pub loop-p-preserved-then-next-p : goal.loop-p-preserved-then-next-p
+loop-p-preserved-then-next-p c = (values-next c.loop-p.invariant.0 (search rules) c.raise_value-more.ensures refl, search rules)
 
 -- src/lib.rt:269:1
 pub returns : goal.returns

@@ -1,15 +1,16 @@
-use borrow.Author.Rules.{rules}
-use Rattle.meter.proofs.Words.{rule_found, rule-missing, rule-past}
+-- `meter::rule_at` meets its contract.
+use native.Mathlib.Omega.{arith}
+use Rattle.meter.proofs.Words.{rule_found, rule-missing}
+use Rattle.meter.proofs.rule_at.Goals.{else-r-starts-via-then-r-starts+else-starts-r, else-r-starts-via-else-r-starts}
 use Rattle.meter.proofs.rule_at.Goals as goal
 
--- src/lib.rt:166:9
-pub returns-then-starts-r : goal.returns-then-starts-r
-returns-then-starts-r c = rule-past c.requires c.starts_before-r.ensures (search rules)
+pub returns-then-starts-r-clause-index : goal.returns-then-starts-r-clause-index
+returns-then-starts-r-clause-index c = rule_found c.starts_before-r.ensures c.if-r-starts.true c.if-starts-r.true
 
--- src/lib.rt:160:1
-pub returns-then-starts-r-2 : goal.returns-then-starts-r-2
-returns-then-starts-r-2 c = rule_found c.starts_before-r.ensures (search rules) c.if-starts-r-2.true
-
--- src/lib.rt:160:1
-pub returns-else-starts-r-2 : goal.returns-else-starts-r-2
-returns-else-starts-r-2 c = rule-missing c.requires c.starts_before-r.ensures (λ z. c.if-starts-r-2.false)
+pub returns-else-r-starts-clause-index : goal.returns-else-r-starts-clause-index
+returns-else-r-starts-clause-index c =
+    rule-missing c.requires c.starts_before-r.ensures
+    (λ z e. elim c.else-r-starts.branch [
+      | else-r-starts-via-then-r-starts+else-starts-r w ↦ w.if-starts-r.false e
+      | else-r-starts-via-else-r-starts w ↦ omega (arith, z, w.if-r-starts.false)
+    ])

@@ -3,13 +3,15 @@ use Rattle.meter.proofs.Laws.{rule-small, not-nothing}
 use Rattle.loader.proofs.Visits.{decode-none, decode-one, decode-both, decode-short, two-words}
 use mathlib.Core.Path.{sym, ◌∙◌}
 use native.Mathlib.Omega.{arith}
+use Rattle.meter.proofs.visit.Goals.{then-at-eq0-via-then-at-eq0, then-at-eq0-via-else-at-eq0+then-size-at}
 use Rattle.meter.proofs.visit.Goals as goal
 
 pub returns-then-at-eq0 : goal.returns-then-at-eq0
-returns-then-at-eq0 c = visit-invalid c.requires.0 (outside_low _ _ c.if-at-eq0.true)
-
-pub returns-then-size-at : goal.returns-then-size-at
-returns-then-size-at c = visit-invalid c.requires.0 (outside_high _ _ (omega (arith, c.size_of-size.ensures, c.if-size-at.true)))
+returns-then-at-eq0 c =
+    elim c.then-at-eq0.branch [
+      | then-at-eq0-via-then-at-eq0 w ↦ visit-invalid c.requires.0 (outside_low _ _ w.if-at-eq0.true)
+      | then-at-eq0-via-else-at-eq0+then-size-at w ↦ visit-invalid c.requires.0 (outside_high _ _ (omega (arith, c.size_of-size.ensures, w.if-size-at.true)))
+    ]
 
 pub returns-then-number-eq0 : goal.returns-then-number-eq0
 returns-then-number-eq0 c = visit-unreached c.requires.0 c.number-number.ensures c.if-number-eq0.true
