@@ -17,8 +17,9 @@ fn put_word(out: &mut [u8], i: usize, x: u16)
     ensures { out.new ≡ set_word out.old i x }
 {
     if i < out.len() / 2 {
-        out[2 * i] = (x / 256) as u8;
-        out[2 * i + 1] = (x % 256) as u8;
+        let [high, low] = x.to_be_bytes();
+        out[2 * i] = high;
+        out[2 * i + 1] = low;
     }
 }
 
@@ -225,28 +226,14 @@ fn emit_item(
     }
 }
 
-fn emit_plain(
-    cells: &[u16],
-    slots: &mut [usize],
-    p: usize,
-    out: &mut [u8],
-    at: usize,
-    x: usize,
-) -> Spot
-    requires { Room cells.now p at × (p < length cells.now) }
-    ensures item_done { ItemDone cells.now (plain_at cells.now slots.old p) p at out.old out.new result.p result.at }
-    ensures slots_after { (slots.new ≡ called_at cells.now p 8 slots.old (at + 1)) × (result.exit ≡ x) }
+fn emit_plain(cells: &[u16], slots: &mut [usize], out: &mut [u8], spot: Spot) -> Spot
+    requires { Room cells.now spot.p spot.at × (spot.p < length cells.now) }
+    ensures item_done { ItemDone cells.now (plain_at cells.now slots.old spot.p) spot.p spot.at out.old out.new result.p result.at }
+    ensures slots_after { (slots.new ≡ called_at cells.now spot.p 8 slots.old (spot.at + 1)) × (result.exit ≡ spot.exit) }
 {
-    let v = cell(cells, p + 1);
-    let item = plain_of(cell(cells, p), v, start_at(slots, usize::from(v)));
-    emit_item(
-        cells,
-        slots,
-        out,
-        Spot { p, at, exit: x },
-        item,
-        cells::CALL,
-    )
+    let v = cell(cells, spot.p + 1);
+    let item = plain_of(cell(cells, spot.p), v, start_at(slots, usize::from(v)));
+    emit_item(cells, slots, out, spot, item, cells::CALL)
 }
 
 fn labels_in(k: u16) -> usize
@@ -285,28 +272,14 @@ fn sel_of(k: u16, v: u16, to: u16) -> Item
     }
 }
 
-fn emit_sel(
-    cells: &[u16],
-    slots: &mut [usize],
-    p: usize,
-    out: &mut [u8],
-    at: usize,
-    x: usize,
-) -> Spot
-    requires { Room cells.now p at × (p < length cells.now) }
-    ensures item_done { ItemDone cells.now (sel_at cells.now slots.old p) p at out.old out.new result.p result.at }
-    ensures slots_after { (slots.new ≡ called_at cells.now p 11 slots.old (at + 1)) × (result.exit ≡ x) }
+fn emit_sel(cells: &[u16], slots: &mut [usize], out: &mut [u8], spot: Spot) -> Spot
+    requires { Room cells.now spot.p spot.at × (spot.p < length cells.now) }
+    ensures item_done { ItemDone cells.now (sel_at cells.now slots.old spot.p) spot.p spot.at out.old out.new result.p result.at }
+    ensures slots_after { (slots.new ≡ called_at cells.now spot.p 11 slots.old (spot.at + 1)) × (result.exit ≡ spot.exit) }
 {
-    let v = cell(cells, p + 1);
-    let item = sel_of(cell(cells, p), v, start_at(slots, usize::from(v)));
-    emit_item(
-        cells,
-        slots,
-        out,
-        Spot { p, at, exit: x },
-        item,
-        cells::BY_RULE,
-    )
+    let v = cell(cells, spot.p + 1);
+    let item = sel_of(cell(cells, spot.p), v, start_at(slots, usize::from(v)));
+    emit_item(cells, slots, out, spot, item, cells::BY_RULE)
 }
 
 // The choice table's entries of one alternative.
@@ -373,115 +346,92 @@ pub struct Opening {
 }
 
 // What stands for no otherwise: the first label's token and back to its alternative, or the end of the choice.
-fn emit_absent(cells: &[u16], p: usize, out: &mut [u8], at: usize, x: usize, first: Opening) -> Spot
-    requires { Room cells.now p 0 × (at < 1100000000) }
-    ensures absent_done { (get_or cells.now p 0 ≡ 13 → ⊥) → AbsentDone cells.now p out.old out.new at first.label first.from result.p result.at }
-    ensures moved { Moved cells.now p (at + 4) result.p result.at × (result.exit ≡ x) }
+fn emit_absent(cells: &[u16], out: &mut [u8], spot: Spot, first: Opening) -> Spot
+    requires { Room cells.now spot.p 0 × (spot.at < 1100000000) }
+    ensures absent_done { (get_or cells.now spot.p 0 ≡ 13 → ⊥) → AbsentDone cells.now spot.p out.old out.new spot.at first.label first.from result.p result.at }
+    ensures moved { Moved cells.now spot.p (spot.at + 4) result.p result.at × (result.exit ≡ spot.exit) }
 {
-    let next = (p + 1).min(cells.len());
-    if cell(cells, p) == cells::NO_TOKEN {
+    let next = (spot.p + 1).min(cells.len());
+    let at = spot.at;
+    if cell(cells, spot.p) == cells::NO_TOKEN {
         put_words(out, at, &[machine::INPUT, first.label]);
         put_span(out, at + 2, machine::JUMP_BACK, at + 3, first.from);
         Spot {
             p: next,
             at: at + 4,
-            exit: x,
+            ..spot
         }
     } else {
         put_word(out, at, machine::END_CHOICE);
         Spot {
             p: next,
             at: at + 1,
-            exit: x,
+            ..spot
         }
     }
 }
 
 #[cycle(emit_act_emit_alts_emit_choice_emit_cycle_emit_list_emit_other)]
-fn emit_list(
-    cells: &[u16],
-    slots: &mut [usize],
-    p: usize,
-    out: &mut [u8],
-    at: usize,
-    x: usize,
-) -> Spot
-    requires { Room cells.now p at × (x < 2000000000) }
-    ensures list_done { ListDone cells.now p out.old out.new at x slots.old slots.new result.p result.at result.exit }
-    ensures moved { Moved cells.now p at result.p result.at × (result.exit < 2000000000) }
+fn emit_list(cells: &[u16], slots: &mut [usize], out: &mut [u8], spot: Spot) -> Spot
+    requires { Room cells.now spot.p spot.at × (spot.exit < 2000000000) }
+    ensures list_done { ListDone cells.now spot.p out.old out.new spot.at spot.exit slots.old slots.new result.p result.at result.exit }
+    ensures moved { Moved cells.now spot.p spot.at result.p result.at × (result.exit < 2000000000) }
 {
-    let mut q = p;
-    let mut l = at;
-    let mut e = x;
-    let mut k = cell(cells, q);
+    let mut here = spot;
     // no range: a word or a cell says where the next stands
-    while k != cells::END {
-        let s = emit_act(cells, slots, q, out, l, e);
-        q = s.p;
-        l = s.at;
-        e = s.exit;
-        k = cell(cells, q);
+    while cell(cells, here.p) != cells::END {
+        here = emit_act(cells, slots, out, here);
     }
     Spot {
-        p: (q + 1).min(cells.len()),
-        at: l,
-        exit: e,
+        p: (here.p + 1).min(cells.len()),
+        ..here
     }
 }
 
 #[cycle(emit_act_emit_alts_emit_choice_emit_cycle_emit_list_emit_other)]
-fn emit_act(
-    cells: &[u16],
-    slots: &mut [usize],
-    p: usize,
-    out: &mut [u8],
-    at: usize,
-    x: usize,
-) -> Spot
-    requires { Room cells.now p at × (p < length cells.now) × (x < 2000000000) }
-    ensures act_done { ActDone cells.now p out.old out.new at x slots.old slots.new result.p result.at result.exit }
-    ensures passed { Passed cells.now p at result.p result.at × (result.exit < 2000000000) }
+fn emit_act(cells: &[u16], slots: &mut [usize], out: &mut [u8], spot: Spot) -> Spot
+    requires { Room cells.now spot.p spot.at × (spot.p < length cells.now) × (spot.exit < 2000000000) }
+    ensures act_done { ActDone cells.now spot.p out.old out.new spot.at spot.exit slots.old slots.new result.p result.at result.exit }
+    ensures passed { Passed cells.now spot.p spot.at result.p result.at × (result.exit < 2000000000) }
 {
-    let k = cell(cells, p);
+    let k = cell(cells, spot.p);
     if k == cells::EXIT {
-        put_words(out, at, &[machine::JUMP_FORWARD, low(x)]);
+        put_words(out, spot.at, &[machine::JUMP_FORWARD, low(spot.exit)]);
         return Spot {
-            p: p + 1,
-            at: at + 2,
-            exit: at + 1,
+            p: spot.p + 1,
+            at: spot.at + 2,
+            exit: spot.at + 1,
         };
     }
     if k == cells::CYCLE {
-        return emit_cycle(cells, slots, p, out, at, x);
+        return emit_cycle(cells, slots, out, spot);
     }
     if chooses(k) {
-        return emit_choice(cells, slots, p, out, at, x);
+        return emit_choice(cells, slots, out, spot);
     }
-    emit_plain(cells, slots, p, out, at, x)
+    emit_plain(cells, slots, out, spot)
 }
 
 // A cycle's own exits are a chain of its own.
 #[cycle(emit_act_emit_alts_emit_choice_emit_cycle_emit_list_emit_other)]
-fn emit_cycle(
-    cells: &[u16],
-    slots: &mut [usize],
-    p: usize,
-    out: &mut [u8],
-    at: usize,
-    x: usize,
-) -> Spot
-    requires { Room cells.now p at × (p < length cells.now) × (x < 2000000000) }
-    ensures cycle_done { CycleDone cells.now p out.old out.new at x slots.old slots.new result.p result.at result.exit }
-    ensures passed { Passed cells.now p at result.p result.at × (result.exit < 2000000000) }
+fn emit_cycle(cells: &[u16], slots: &mut [usize], out: &mut [u8], spot: Spot) -> Spot
+    requires { Room cells.now spot.p spot.at × (spot.p < length cells.now) × (spot.exit < 2000000000) }
+    ensures cycle_done { CycleDone cells.now spot.p out.old out.new spot.at spot.exit slots.old slots.new result.p result.at result.exit }
+    ensures passed { Passed cells.now spot.p spot.at result.p result.at × (result.exit < 2000000000) }
 {
-    let s = emit_list(cells, slots, p + 1, out, at, 0);
+    let inner = Spot {
+        p: spot.p + 1,
+        exit: 0,
+        ..spot
+    };
+    let s = emit_list(cells, slots, out, inner);
     let end = s.at + 2;
-    put_span(out, s.at, machine::JUMP_BACK, s.at + 1, at);
+    put_span(out, s.at, machine::JUMP_BACK, s.at + 1, spot.at);
     patch(out, s.exit, end, Operand::Distance);
     Spot {
         p: s.p,
         at: end,
-        exit: x,
+        ..spot
     }
 }
 
@@ -497,39 +447,32 @@ pub struct Row {
 
 // Behind each alternative stand its first cell, for the choice table, and the end before it.
 #[cycle(emit_act_emit_alts_emit_choice_emit_cycle_emit_list_emit_other)]
-fn emit_alts(
-    cells: &[u16],
-    slots: &mut [usize],
-    p: usize,
-    out: &mut [u8],
-    at: usize,
-    x: usize,
-) -> Row
-    requires { Room cells.now p at × (x < 2000000000) }
-    ensures alts_done { AltsDone cells.now p out.old out.new at x slots.old slots.new result }
-    ensures moved { Moved cells.now p at result.p (result.at + 2 * result.labels) × (result.exit < 2000000000) × (result.end < 2000000000) }
+fn emit_alts(cells: &[u16], slots: &mut [usize], out: &mut [u8], spot: Spot) -> Row
+    requires { Room cells.now spot.p spot.at × (spot.exit < 2000000000) }
+    ensures alts_done { AltsDone cells.now spot.p out.old out.new spot.at spot.exit slots.old slots.new result }
+    ensures moved { Moved cells.now spot.p spot.at result.p (result.at + 2 * result.labels) × (result.exit < 2000000000) × (result.end < 2000000000) }
 {
-    let mut q = p;
-    let mut l = at;
-    let mut e = x;
+    let mut here = spot;
     let mut end = 0;
     let mut n = 0;
-    let mut j = labels_at(cells, q);
+    let mut j = labels_at(cells, here.p);
     // no range: a word or a cell says where the next stands
     while 0 < j {
-        let s = emit_list(cells, slots, q + 1 + j, out, l, e);
-        put_words(out, s.at, &[low(q), low(end)]);
+        let first = Spot {
+            p: here.p + 1 + j,
+            ..here
+        };
+        let s = emit_list(cells, slots, out, first);
+        put_words(out, s.at, &[low(here.p), low(end)]);
         end = s.at + 1;
         n += j;
-        q = s.p;
-        l = s.at + 2;
-        e = s.exit;
-        j = labels_at(cells, q);
+        here = Spot { at: s.at + 2, ..s };
+        j = labels_at(cells, here.p);
     }
     Row {
-        p: q,
-        at: l,
-        exit: e,
+        p: here.p,
+        at: here.at,
+        exit: here.exit,
         end,
         labels: n,
     }
@@ -539,53 +482,56 @@ fn emit_alts(
 fn emit_other(
     cells: &[u16],
     slots: &mut [usize],
-    p: usize,
     out: &mut [u8],
-    at: usize,
-    x: usize,
+    spot: Spot,
     first: Opening,
 ) -> Spot
-    requires { Room cells.now p at × (x < 2000000000) }
-    ensures other_done { OtherDone cells.now p out.old out.new at x first.label first.from slots.old slots.new result.p result.at result.exit }
-    ensures moved { Moved cells.now p (at + 4) result.p result.at × (result.exit < 2000000000) }
+    requires { Room cells.now spot.p spot.at × (spot.exit < 2000000000) }
+    ensures other_done { OtherDone cells.now spot.p out.old out.new spot.at spot.exit first.label first.from slots.old slots.new result.p result.at result.exit }
+    ensures moved { Moved cells.now spot.p (spot.at + 4) result.p result.at × (result.exit < 2000000000) }
 {
-    if cell(cells, p) == cells::OTHERWISE {
-        emit_list(cells, slots, p + 1, out, at, x)
+    if cell(cells, spot.p) == cells::OTHERWISE {
+        let inner = Spot {
+            p: spot.p + 1,
+            ..spot
+        };
+        emit_list(cells, slots, out, inner)
     } else {
-        emit_absent(cells, p, out, at, x, first)
+        emit_absent(cells, out, spot, first)
     }
 }
 
 #[cycle(emit_act_emit_alts_emit_choice_emit_cycle_emit_list_emit_other)]
-fn emit_choice(
-    cells: &[u16],
-    slots: &mut [usize],
-    p: usize,
-    out: &mut [u8],
-    at: usize,
-    x: usize,
-) -> Spot
-    requires { Room cells.now p at × (p < length cells.now) × (chooses (get_or cells.now p 0) ≡ 1) × (x < 2000000000) }
-    ensures act_done { ActDone cells.now p out.old out.new at x slots.old slots.new result.p result.at result.exit }
-    ensures passed { Passed cells.now p at result.p result.at × (result.exit < 2000000000) }
+fn emit_choice(cells: &[u16], slots: &mut [usize], out: &mut [u8], spot: Spot) -> Spot
+    requires { Room cells.now spot.p spot.at × (spot.p < length cells.now) × (chooses (get_or cells.now spot.p 0) ≡ 1) × (spot.exit < 2000000000) }
+    ensures act_done { ActDone cells.now spot.p out.old out.new spot.at spot.exit slots.old slots.new result.p result.at result.exit }
+    ensures passed { Passed cells.now spot.p spot.at result.p result.at × (result.exit < 2000000000) }
 {
-    let ins = ins_of(cell(cells, p));
-    let a = emit_sel(cells, slots, p, out, at, x);
-    let first = a.p;
-    let here = a.at;
-    let from = here + 2;
-    put_words(out, here, &[ins, 0]);
-    let z = emit_alts(cells, slots, first, out, from, x);
+    let ins = ins_of(cell(cells, spot.p));
+    let a = emit_sel(cells, slots, out, spot);
+    let from = a.at + 2;
+    put_words(out, a.at, &[ins, 0]);
+    let first = Spot {
+        p: a.p,
+        at: from,
+        ..spot
+    };
+    let z = emit_alts(cells, slots, out, first);
     let table = z.at;
     let rest = table + 1 + 2 * z.labels;
-    patch(out, here + 1, table, Operand::Distance);
+    patch(out, a.at + 1, table, Operand::Distance);
     put_word(out, table, low(z.labels));
     emit_table(cells, out, z.end, from, rest);
     let opening = Opening {
-        label: cell(cells, first + 1),
+        label: cell(cells, a.p + 1),
         from,
     };
-    let s = emit_other(cells, slots, z.p, out, rest, z.exit, opening);
+    let other = Spot {
+        p: z.p,
+        at: rest,
+        exit: z.exit,
+    };
+    let s = emit_other(cells, slots, out, other, opening);
     patch(out, z.end, s.at, Operand::Distance);
     s
 }
@@ -609,19 +555,13 @@ pub fn zero(table: &mut [u8])
 // The rules.
 
 // One rule: its actions and, but in a choice rule, the return.
-fn emit_rule(
-    cells: &[u16],
-    slots: &mut [usize],
-    p: usize,
-    out: &mut [u8],
-    at: usize,
-    sort: u8,
-) -> Spot
-    requires { Room cells.now p at }
-    ensures rule_done { RuleDone cells.now p out.old out.new at sort slots.old slots.new result.p result.at }
-    ensures moved { Moved cells.now p (at + 1) result.p result.at }
+fn emit_rule(cells: &[u16], slots: &mut [usize], out: &mut [u8], spot: Spot, sort: u8) -> Spot
+    requires { Room cells.now spot.p spot.at }
+    ensures rule_done { RuleDone cells.now spot.p out.old out.new spot.at sort slots.old slots.new result.p result.at }
+    ensures moved { Moved cells.now spot.p (spot.at + 1) result.p result.at }
 {
-    let s = emit_list(cells, slots, p, out, at, 0);
+    let first = Spot { exit: 0, ..spot };
+    let s = emit_list(cells, slots, out, first);
     patch(out, s.exit, s.at, Operand::Distance);
     if sort == cells::PROCEDURE_RULE {
         put_word(out, s.at, machine::RETURN);
@@ -651,15 +591,16 @@ fn emit_rules(
     requires { (length cells.now ≤ 65536) × (rules ≤ 128) }
     ensures { RulesDone cells.now sorts.now rules slots.old out.old out.new result }
 {
-    let mut q = 0;
-    let mut l = 0;
+    let mut here = Spot {
+        p: 0,
+        at: 0,
+        exit: 0,
+    };
     for r in 0..rules {
-        place_rule(slots, r, out, l);
-        let s = emit_rule(cells, slots, q, out, l, sort_at(sorts, r));
-        q = s.p;
-        l = s.at;
+        place_rule(slots, r, out, here.at);
+        here = emit_rule(cells, slots, out, here, sort_at(sorts, r));
     }
-    l
+    here.at
 }
 
 // The table does not fit: it takes so many words.
