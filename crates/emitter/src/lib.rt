@@ -55,7 +55,7 @@ fn put_span(out: &mut [u8], at: usize, a: u16, to: usize, from: usize)
     put_words(out, at, &[a, span(to, from)]);
 }
 
-// A place in the cells, a place in the table, and the newest open exit of the cycle around it, 0: none.
+// A place in the cells, a place in the table, and the newest open exit of the cycle around it, 0: none, as the words of the table keep it while they wait.
 #[derive(Clone, Copy, Debug, PartialEq, Eq)]
 pub struct Spot {
     pub p: usize,

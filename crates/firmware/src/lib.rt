@@ -404,7 +404,8 @@ pub fn sst_turn_whole(
     n
 }
 
-// A paused turn.
+// A paused turn. It is the whole one but for its call; one function over both would take an enum of the two ways to answer, and a match that is longer
+// than the lines that it spares.
 pub fn sst_turn_paused(
     table: &[u8],
     tokens: &[u8],

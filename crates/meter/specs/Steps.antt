@@ -3,6 +3,9 @@
 use Rattle.std.specs.Prelude.{Bool, true, false, List, [], ◌∷◌, ◌≡◌, ℕ, ◌+◌, ◌*◌, ◌-◌, ◌≤◌, ◌<◌, min, length, get_or}
 use Rattle.std.proofs.Math.Option.{Option, some}
 use Rattle.std.specs.Prelude as found
+use Rattle.machine.specs.Bytes.{table_of}
+use Rattle.meter.specs.Store.{numbers_of, called_numbers}
+use Rattle.meter.specs.declared.Program.{Program}
 use Rattle.meter.specs.declared.Direction.{Direction}
 use Rattle.meter.specs.declared.Direction.TheVariants.{Down, Up}
 use Rattle.machine.specs.Decode.{fetch, Instruction, input_choice, call_rule, set_result, choice, decode}
@@ -159,6 +162,20 @@ pub data AskedFrom (T S called : List ℕ) (q : ℕ) (rows : List ℕ) (i v : �
 abbrev pub rule_in : Direction → ℕ → ℕ → ℕ
 rule_in Down n i = n - 1 - i
 rule_in Up n i = i
+
+-- the words of a program's table, and the numbers of the half that it lends
+abbrev pub table_in : Program → List ℕ
+table_in o = table_of o.table.now
+
+abbrev pub called_in : Program → List ℕ
+called_in o = called_numbers o.called.now
+
+-- the same over a program, and halves as they are stored
+abbrev pub KeptIn : Program → List ℕ → Type 0
+KeptIn o rows = Kept (table_in o) o.starts.now (called_in o) (numbers_of rows)
+
+abbrev pub StepsIn : Program → Asked → List ℕ → List ℕ → Bool → Type 0
+StepsIn o M rows after changed = Steps (table_in o) o.starts.now M (called_in o) (numbers_of rows) (numbers_of after) changed
 
 -- the numbers from one place to another are 0
 pub record ZeroIn (ns : List ℕ) (from to : ℕ) : Type 0 where

@@ -6,4 +6,4 @@ use lib.ListN.{length}
 use Rattle.meter.proofs.begin.Given as goal
 
 abbrev pub invariant-loop-start : goal.invariant-loop-start
-invariant-loop-start l = (BegunUpto (table_of l.table) l.starts (called_numbers l.called) l.start-index (numbers_of l.rows)) × (length l.rows ≡ 4490)
+invariant-loop-start l = (BegunUpto (table_of l.program.table.now) l.program.starts.now (called_numbers l.program.called.now) l.start-index (numbers_of l.rows)) × (length l.rows ≡ 4490)

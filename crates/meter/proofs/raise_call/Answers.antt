@@ -24,7 +24,7 @@ pub raise_two-a-requires : goal.raise_two-a-requires
 raise_two-a-requires c = c.requires.3
 
 pub raise_behind-b-requires : goal.raise_behind-b-requires
-raise_behind-b-requires c = ((call-first c.requires.0 c.requires.1 c.requires.2 (call-index c.requires.0 c.requires.1 c.requires.2 c.starts_before-q.ensures) c.called_number.ensures c.mark_of.ensures refl c.raise_two-a.ensures).kept, called-here c.requires.0 c.requires.1 c.requires.2 (call-index c.requires.0 c.requires.1 c.requires.2 c.starts_before-q.ensures), search rules)
+raise_behind-b-requires c = ((call-first c.requires.0 c.requires.1 c.requires.2 (call-index c.requires.0 c.requires.1 c.requires.2 c.starts_before-q.ensures) c.called_number.ensures c.mark_of-mark.ensures refl c.raise_two-a.ensures).kept, called-here c.requires.0 c.requires.1 c.requires.2 (call-index c.requires.0 c.requires.1 c.requires.2 c.starts_before-q.ensures), search rules)
 
 pub returns : goal.returns
-returns c = called-all c.requires.0 (call-index c.requires.0 c.requires.1 c.requires.2 c.starts_before-q.ensures) (call-first c.requires.0 c.requires.1 c.requires.2 (call-index c.requires.0 c.requires.1 c.requires.2 c.starts_before-q.ensures) c.called_number.ensures c.mark_of.ensures refl c.raise_two-a.ensures) c.raise_behind-b.ensures refl
+returns c = called-all c.requires.0 (call-index c.requires.0 c.requires.1 c.requires.2 c.starts_before-q.ensures) (call-first c.requires.0 c.requires.1 c.requires.2 (call-index c.requires.0 c.requires.1 c.requires.2 c.starts_before-q.ensures) c.called_number.ensures c.mark_of-mark.ensures refl c.raise_two-a.ensures) c.raise_behind-b.ensures refl

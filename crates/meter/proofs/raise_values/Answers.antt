@@ -10,12 +10,12 @@ pub end_of-to-requires : goal.end_of-to-requires
 end_of-to-requires c = (omega (arith, c.requires.1.found, c.requires.0.shaped.few), omega (arith, c.size_of.ensures, c.requires.0.shaped.short))
 
 -- src/lib.rt:283:17
-pub offset_bounds-starts-q : goal.offset_bounds-starts-q
-offset_bounds-starts-q c = omega (arith, c.requires.1.found, c.requires.0.shaped.few)
+pub offset_bounds-program-q : goal.offset_bounds-program-q
+offset_bounds-program-q c = omega (arith, c.requires.1.found, c.requires.0.shaped.few)
 
 -- src/lib.rt:283:17
-pub bounds-starts-q : goal.bounds-starts-q
-bounds-starts-q c = c.requires.1.found
+pub bounds-program-q : goal.bounds-program-q
+bounds-program-q c = c.requires.1.found
 
 -- src/lib.rt:284:5
 pub loop-p-init : goal.loop-p-init
@@ -25,13 +25,19 @@ loop-p-init c = (values-first c.requires.0 (omega (arith, start-end c.requires.0
 pub raise_value-more-requires : goal.raise_value-more-requires
 raise_value-more-requires c = (c.loop-p.invariant.0.steps.kept, record { rule = c.args.q; here = c.requires.1; chooses = c.requires.2; in_rule = record { from = c.loop-p.invariant.0.from; to = omega (arith, c.loop-p-test.true, c.loop-p.invariant.0.is-end) } }, c.loop-p.invariant.1)
 
-pub loop-p-preserved : goal.loop-p-preserved
-loop-p-preserved c =
-    let z = c.past_called-next.ensures in
-    (values-past c.loop-p.invariant.0 z.0 z.1 z.2, search rules)
+pub overflow_add-p : goal.overflow_add-p
+overflow_add-p c = omega arith
 
-pub loop-p-preserved-then-next-p : goal.loop-p-preserved-then-next-p
-loop-p-preserved-then-next-p c = (values-next c.loop-p.invariant.0 (search rules) c.raise_value-more.ensures refl, search rules)
+pub next_called-p-requires : goal.next_called-p-requires
+next_called-p-requires c = (search rules, omega arith)
+
+-- src/lib.rt:284:5
+pub loop-p-smaller : goal.loop-p-smaller
+loop-p-smaller c = omega (arith, c.next_called-p.ensures.0, c.next_called-p.ensures.1)
+
+-- src/lib.rt:284:5
+pub loop-p-preserved : goal.loop-p-preserved
+loop-p-preserved c = (values-past (values-next c.loop-p.invariant.0 (search rules) c.raise_value-more.ensures refl) c.next_called-p.ensures.0 c.next_called-p.ensures.1 c.next_called-p.ensures.2, search rules)
 
 -- src/lib.rt:269:1
 pub returns : goal.returns

@@ -7,7 +7,7 @@ use Prim.Native.Nat.{◌-◌}
 use Rattle.meter.proofs.raise_values.Given as goal
 
 abbrev pub invariant-loop-p : goal.invariant-loop-p
-invariant-loop-p l = (ValuesUpto (table_of l.table) l.starts (called_numbers l.called) l.c l.here.number l.q l.to l.p (numbers_of l.initial.rows) (numbers_of l.rows) l.changed) × (length l.rows ≡ 4490)
+invariant-loop-p l = (ValuesUpto (table_of l.program.table.now) l.program.starts.now (called_numbers l.program.called.now) l.c l.here.number l.q l.to l.p (numbers_of l.initial.rows) (numbers_of l.rows) l.changed) × (length l.rows ≡ 4490)
 
 abbrev pub decreases-loop-p : goal.decreases-loop-p
 decreases-loop-p l = l.to - l.p

@@ -8,4 +8,4 @@ use Rattle.meter.specs.Store.{numbers_of, called_numbers}
 use Rattle.meter.proofs.round.Given as goal
 
 abbrev pub invariant-loop-r : goal.invariant-loop-r
-invariant-loop-r l = (l.r ≤ length l.starts) × (length l.rows ≡ 4490) × Steps (table_of l.table) l.starts (AskedFrom (table_of l.table) l.starts (called_numbers l.called) (length l.starts)) (called_numbers l.called) (numbers_of l.initial.rows) (numbers_of l.rows) l.changed
+invariant-loop-r l = (l.r ≤ length l.program.starts.now) × (length l.rows ≡ 4490) × Steps (table_of l.program.table.now) l.program.starts.now (AskedFrom (table_of l.program.table.now) l.program.starts.now (called_numbers l.program.called.now) (length l.program.starts.now)) (called_numbers l.program.called.now) (numbers_of l.initial.rows) (numbers_of l.rows) l.changed

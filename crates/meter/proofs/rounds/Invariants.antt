@@ -6,4 +6,4 @@ use Rattle.meter.specs.Store.{numbers_of, called_numbers}
 use Rattle.meter.proofs.rounds.Given as goal
 
 abbrev pub invariant-loop : goal.invariant-loop
-invariant-loop l = (length l.rows ≡ 4490) × Steps (table_of l.table) l.starts (AskedFrom (table_of l.table) l.starts (called_numbers l.called) (length l.starts)) (called_numbers l.called) (numbers_of l.initial.rows) (numbers_of l.rows) l.changed
+invariant-loop l = (length l.rows ≡ 4490) × Steps (table_of l.program.table.now) l.program.starts.now (AskedFrom (table_of l.program.table.now) l.program.starts.now (called_numbers l.program.called.now) (length l.program.starts.now)) (called_numbers l.program.called.now) (numbers_of l.initial.rows) (numbers_of l.rows) l.changed

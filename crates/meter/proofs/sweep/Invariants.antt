@@ -7,4 +7,4 @@ use Rattle.meter.proofs.Sweeps.{RulesIn}
 use Rattle.meter.proofs.sweep.Given as goal
 
 abbrev pub invariant-loop-i : goal.invariant-loop-i
-invariant-loop-i l = (RulesIn (table_of l.table) l.starts (called_numbers l.called) l.direction l.i (numbers_of l.initial.rows) (numbers_of l.rows) l.changed) × (length l.rows ≡ 4490)
+invariant-loop-i l = (RulesIn (table_of l.program.table.now) l.program.starts.now (called_numbers l.program.called.now) l.direction l.i (numbers_of l.initial.rows) (numbers_of l.rows) l.changed) × (length l.rows ≡ 4490)

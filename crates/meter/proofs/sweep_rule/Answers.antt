@@ -10,12 +10,12 @@ pub end_of-to-requires : goal.end_of-to-requires
 end_of-to-requires c = (omega (arith, c.requires.1, c.requires.0.shaped.few), omega (arith, c.size_of.ensures, c.requires.0.shaped.short))
 
 -- src/lib.rt:399:17
-pub offset_bounds-starts-r : goal.offset_bounds-starts-r
-offset_bounds-starts-r c = omega (arith, c.requires.1, c.requires.0.shaped.few)
+pub offset_bounds-program-r : goal.offset_bounds-program-r
+offset_bounds-program-r c = omega (arith, c.requires.1, c.requires.0.shaped.few)
 
 -- src/lib.rt:399:17
-pub bounds-starts-r : goal.bounds-starts-r
-bounds-starts-r c = c.requires.1
+pub bounds-program-r : goal.bounds-program-r
+bounds-program-r c = c.requires.1
 
 -- src/lib.rt:400:5
 pub loop-l-init : goal.loop-l-init

@@ -8,7 +8,7 @@ pub raise_ways-a-requires : goal.raise_ways-a-requires
 raise_ways-a-requires c = (c.requires.0, c.requires.1)
 
 pub overflow_add-default : goal.overflow_add-default
-overflow_add-default c = omega (arith, c.requires.0.fits, length-table_of c.args.table.now)
+overflow_add-default c = omega (arith, c.requires.0.fits, length-table_of c.args.program.table.now)
 
 pub word_at-requires : goal.word_at-requires
 word_at-requires c = (c.requires.0.low, omega (arith, c.requires.0.fits))
@@ -17,7 +17,7 @@ pub overflow_mul-default : goal.overflow_mul-default
 overflow_mul-default c = omega (arith, c.word_at.ensures.1)
 
 pub overflow_add-default-2 : goal.overflow_add-default-2
-overflow_add-default-2 c = omega (arith, c.word_at.ensures.1, c.requires.0.fits, length-table_of c.args.table.now)
+overflow_add-default-2 c = omega (arith, c.word_at.ensures.1, c.requires.0.fits, length-table_of c.args.program.table.now)
 
 pub overflow_add-here : goal.overflow_add-here
 overflow_add-here c = omega (arith, c.requires.2)
