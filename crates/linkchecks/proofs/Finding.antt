@@ -1,12 +1,11 @@
 -- What stands at a rule: its name, its type, the names of its calls; and how a pass over the row goes on.
-use mathlib.Core.Bool.{Bool, true, false, ◌&&◌}
+use mathlib.Core.Bool.{Bool, true, false, ◌&&◌, not}
 use mathlib.Core.List.{List, [], ◌∷◌, ◌++◌, append_assoc}
 use mathlib.Core.Option.{Option, none, some}
 use mathlib.Core.Path.{◌≡◌, refl, sym, ap, ◌∙◌, subst}
 use native.Mathlib.Omega.{arith}
 use Prim.Native.Nat.{ℕ, zero, suc, ◌+◌, ◌-◌, ◌*◌, ◌/◌, ◌<◌, ◌≤◌}
-use borrow.Author.Tests.{eqb-true, eqb-false}
-use lib.Dec.{eqb, ltb}
+use lib.Dec.{ltb}
 use lib.ListN.{length, get_or, take, drop, length-drop}
 use lib.Seq.{drop-drop, get_or-drop}
 use Rattle.base.specs.Bools as bools
@@ -21,7 +20,7 @@ use Rattle.objects.specs.Take.{took, times}
 use Rattle.objects.specs.View.{Name, RuleView, View, name_words, option_words, rule_words, all, a_name}
 use Rattle.parts.specs.Link.{listed_type}
 use Rattle.syntax.specs.Texts.{Head}
-use Rattle.linkchecks.specs.Checks.{Shows}
+use Rattle.linkchecks.specs.Checks.{IsAt, Shows}
 use Rattle.linkchecks.specs.Row.{Item, Shown, shown_if, or_shown, first_shown, is_named_below, type_agrees, line_of, typed_first, past_row, open_name, unlike_rule, twice_rule}
 use Rattle.linkchecks.specs.Walk.{Stands}
 use Rattle.linkchecks.specs.declared.Cursor.{Cursor}
@@ -31,15 +30,17 @@ use Rattle.linkchecks.proofs.Walking.{before-end, steps, Still, Heads, heads, st
 -- A name
 
 pub found-is : (words : List ℕ) (text p start len : ℕ) (n : Name) (k : List ℕ) → drop p words ≡ name_words n ++ k → start ≡ get_or words p 0 → len ≡ get_or words (p + 1) 0
-    → Shows (some (record { text = text; name = n })) (record { there = true; text = text; start = start; len = len })
-unfolding Shows name_words
-found-is words text p start len n k e s l = record { there_is = refl; text_is = refl; start_is = s ∙ ap (λ i. get_or words i 0) (sym none_more) ∙ sym (get_or-drop p words 0 0) ∙ ap (λ (us : List ℕ). get_or us 0 0) e; len_is = l ∙ (name-at words p n k e).size }
+    → IsAt text n.start (length n.text) (record { text = text; start = start; len = len })
+unfolding name_words
+found-is words text p start len n k e s l = record { text_is = refl; start_is = s ∙ ap (λ i. get_or words i 0) (sym none_more) ∙ sym (get_or-drop p words 0 0) ∙ ap (λ (us : List ℕ). get_or us 0 0) e; len_is = l ∙ (name-at words p n k e).size }
   where
     none_more : p + 0 ≡ p
     none_more = omega arith
 
-pub name-before : (words : List ℕ) (p : ℕ) (n : Name) (k : List ℕ) → drop p words ≡ name_words n ++ k → p < length words
-name-before words p n k e = let h = (name-at words p n k e).there in omega (arith, h)
+-- what is found there shows it
+pub shows-some : {text : ℕ} (n : Name) (r : Found) → IsAt text n.start (length n.text) r → Shows (some (record { text = text; name = n })) (code.Some r)
+unfolding Shows
+shows-some n r h = h
 
 name-some : (n : Name) → 1 ≤ length (name_words n)
 unfolding name_words
@@ -97,23 +98,20 @@ gives_at words at g v k e y =
 
 -- What a pass over the row shows
 
-pub shows_nothing : (o : Option Shown) (r : Found) → o ≡ none → r.there ≡ false → Shows o r
+pub shows-none : (o : Option Shown) → o ≡ none → Shows o code.None
 unfolding Shows
-shows_nothing o r e d = rw e d
+shows-none o e = rw e refl
 
-pub shows-none : (r : Found) → r.there ≡ false → Shows none r
-unfolding Shows
-shows-none r d = d
-
-shows_left : (a b : Option Shown) (r : Found) → Shows a r → r.there ≡ true → Shows (or_shown a b) r
+shows_left : (a b : Option Shown) (r : code.Option Found) → Shows a r → code.is_some r ≡ true → Shows (or_shown a b) r
 unfolding Shows or_shown
-shows_left none b r x e = bools.never (sym x ∙ e)
+shows_left none b r x e = bools.never (rw x at e)
 shows_left (some s) b r x e = x
 
-shows-right : (a b : Option Shown) (r : Found) → Shows a r → r.there ≡ false → or_shown a b ≡ b
+shows-right : (a b : Option Shown) (r : code.Option Found) → Shows a r → code.is_some r ≡ false → or_shown a b ≡ b
 unfolding Shows or_shown
 shows-right none b r x e = refl
-shows-right (some s) b r x e = bools.never (sym e ∙ x.there_is)
+shows-right (some s) b (code.Some f) x e = bools.never (sym e)
+shows-right (some s) b code.None x e = absurd x
 
 -- the first rule has a type
 pub record TypedIs (words : List ℕ) (row : List Item) (c : Cursor) : Type 0 where
@@ -137,16 +135,16 @@ module _ {common words : List ℕ} {vs : List View} where
   stands-text s = (steps s).text_is
 
   module _ (f : Item → Option Shown) {b : Option Shown} {c : Cursor} where
-    pub shown-here : (x : Heads common words vs (first_shown f) b c) (r : Found) → Shows (f x.first) r → r.there ≡ true → Shows b r
+    pub shown-here : (x : Heads common words vs (first_shown f) b c) (r : code.Option Found) → Shows (f x.first) r → code.is_some r ≡ true → Shows b r
     unfolding first_shown
     shown-here x r h e = subst (λ o. Shows o r) (sym x.is) (shows_left (f x.first) (first_shown f x.later) r h e)
 
-    pub shown-later : (x : Heads common words vs (first_shown f) b c) (r : Found) → Shows (f x.first) r → r.there ≡ false → (c₁ : Cursor) → Stands common words vs c₁ x.later
+    pub shown-later : (x : Heads common words vs (first_shown f) b c) (r : code.Option Found) → Shows (f x.first) r → code.is_some r ≡ false → (c₁ : Cursor) → Stands common words vs c₁ x.later
         → Still common words vs (first_shown f) b c₁
     unfolding first_shown
     shown-later x r h e c₁ s = record { row = x.later; stands = s; is = x.is ∙ shows-right (f x.first) (first_shown f x.later) r h e }
 
-    pub shown-some : (x : Heads common words vs (first_shown f) b c) (r : Found) (s : Shown) → f x.first ≡ some s → Shows (some s) r → Shows b r
+    pub shown-some : (x : Heads common words vs (first_shown f) b c) (r : code.Option Found) (s : Shown) → f x.first ≡ some s → Shows (some s) r → Shows b r
     unfolding first_shown or_shown
     shown-some x r s e h = subst (λ o. Shows o r) (sym (x.is ∙ ap (λ o. or_shown o (first_shown f x.later)) e)) h
 
@@ -154,9 +152,9 @@ module _ {common words : List ℕ} {vs : List View} where
     unfolding first_shown or_shown
     shown-passed x e c₁ s = record { row = x.later; stands = s; is = x.is ∙ ap (λ o. or_shown o (first_shown f x.later)) e }
 
-    pub shown-none : Still common words vs (first_shown f) b c → length words ≤ c.at → (r : Found) → r.there ≡ false → Shows b r
+    pub shown-none : Still common words vs (first_shown f) b c → length words ≤ c.at → Shows b code.None
     unfolding first_shown
-    shown-none x l r e = shows_nothing b r (still-none x l) e
+    shown-none x l = shows-none b (still-none x l)
 
   -- Names of rules
 
@@ -217,7 +215,7 @@ module _ {common words : List ℕ} {vs : List View} where
   -- The limit
 
   module _ (left : ℕ) {b : Option Shown} {c : Cursor} where
-    pub limit-here : (i : ℕ) (x : Heads common words vs (past_row (left - i)) b c) (r : Found) → i ≡ left → Shows (some (record { text = c.text; name = x.first.rule.name })) r → Shows b r
+    pub limit-here : (i : ℕ) (x : Heads common words vs (past_row (left - i)) b c) (r : code.Option Found) → i ≡ left → Shows (some (record { text = c.text; name = x.first.rule.name })) r → Shows b r
     unfolding past_row
     limit-here i x r e h =
         let z : left - i ≡ 0 = omega (arith, e) in
@@ -298,39 +296,32 @@ line-later t (h ∷ hs) (suc i) l e =
     let d : suc i + 1 ≡ suc (i + 1) = omega arith in
     line-later t hs i (omega (arith, l)) e ∙ ap (λ j. suc (line_of t (drop j (h ∷ hs)))) (sym d)
 
-module _ {common heads : List ℕ} {hs : List Head} (x : HeadsAt common heads hs) (o : Option Name) (t : List ℕ) (line count : ℕ) (d : line ≡ line_of t hs) (e : count ≡ length heads / 4) where
-  lines : count ≡ length hs
-  lines = let m = x.as_many in omega (arith, m, e)
+module _ {common heads : List ℕ} {hs : List Head} (x : HeadsAt common heads hs) (o : Option Name) (t : List ℕ) where
+  lines : length heads / 4 ≡ length hs
+  lines = let m = x.as_many in omega (arith, m)
 
-  pub untyped-agrees : o ≡ none → eqb line count ≡ type_agrees o (listed_type t hs)
+  pub untyped-agrees : (r : code.Option ℕ) (b : Bool) → code.is_some r ≡ not b → code.IfSome r (λ i. i < length heads / 4) → code.unwrap_or r (length heads / 4) ≡ line_of t hs → o ≡ none → b ≡ type_agrees o (listed_type t hs)
   unfolding type_agrees
-  untyped-agrees z = let m = lines in go m (eqb line count) refl
-    where
-      strict : (a b : ℕ) → (a ≡ b → ⊥) → a ≤ b → a < b
-      strict a b g k = omega (arith, g, k)
+  untyped-agrees code.None true e l d z = let m = lines in rw (z, listed-none t hs (omega (arith, d, m)))
+  untyped-agrees (code.Some i) false e l d z = let m = lines in rw (z, listed-some t hs (omega (arith, d, l, m)))
+  untyped-agrees code.None false e l d z = bools.never e
+  untyped-agrees (code.Some i) true e l d z = bools.never (sym e)
 
-      go : count ≡ length hs → (b : Bool) → eqb line count ≡ b → b ≡ type_agrees o (listed_type t hs)
-      go m true q = let l = eqb-true line count q in rw (z, listed-none t hs (omega (arith, d, l, m)))
-      go m false q = let l = eqb-false line count q in let k = line-near t hs in rw (z, listed-some t hs (strict (line_of t hs) (length hs) (λ f. l (d ∙ f ∙ sym m)) k))
-
-  pub unlisted-not : (n : Name) → o ≡ some n → line ≡ count → false ≡ type_agrees o (listed_type t hs)
+  pub unlisted-not : (n : Name) (r : code.Option ℕ) → r ≡ code.None → code.unwrap_or r (length heads / 4) ≡ line_of t hs → o ≡ some n → false ≡ type_agrees o (listed_type t hs)
   unfolding type_agrees
-  unlisted-not n z l = let m = lines in rw (z, listed-none t hs (omega (arith, d, l, m)))
+  unlisted-not n r e d z = let m = lines in let k : length heads / 4 ≡ line_of t hs = rw e at d in rw (z, listed-none t hs (omega (arith, k, m)))
 
-  pub typed-agrees : (n : Name) (start size : ℕ) (r : Bool) → o ≡ some n → (line ≡ count → ⊥) → line ≤ count → start ≡ get_or heads (4 * line + 2) 0 → size ≡ get_or heads (4 * line + 3) 0
-      → (start + size ≤ length common → r ≡ same n.text (take size (drop start common))) → r ≡ type_agrees o (listed_type t hs)
+  pub typed-agrees : (n : Name) (line start size : ℕ) (b : Bool) → line < length heads / 4 → line ≡ line_of t hs → o ≡ some n → start ≡ get_or heads (4 * line + 2) 0 → size ≡ get_or heads (4 * line + 3) 0
+      → (start + size ≤ length common → b ≡ same n.text (take size (drop start common))) → b ≡ type_agrees o (listed_type t hs)
   unfolding type_agrees
-  typed-agrees n start size r z f l ds dz h =
+  typed-agrees n line start size b l d z ds dz h =
       let m = lines in
-      let i : line < length hs = omega (arith, m, ne-lt line count f l) in
+      let i : line < length hs = omega (arith, m, l) in
       let a = x.types_inside line i in
       h (omega (arith, a, ds, dz))
       ∙ ap (same n.text) (ap (λ k. take k (drop start common)) dz ∙ ap (λ k. take (get_or heads (4 * line + 3) 0) (drop k common)) ds ∙ sym (x.types line i))
       ∙ ap (λ k. same n.text (type_at hs k)) d
       ∙ rw (z, listed-some t hs (omega (arith, i, d)))
-    where
-      ne-lt : (a b : ℕ) → (a ≡ b → ⊥) → a ≤ b → a < b
-      ne-lt a b g k = omega (arith, g, k)
 
 -- Names one behind the other, of which the first that f shows is sought
 
@@ -353,12 +344,12 @@ module _ {words : List ℕ} {f : Name → Option Shown} {b : Option Shown} {rest
   pub asking : {m q : ℕ} (n at : ℕ) (ns : List Name) → m ≡ n → q ≡ at → times n a_name (drop at words) ≡ took ns rest → b ≡ first_shown f ns → Asking words f b rest m q
   asking n at ns d g e h = record { left = ns; taken = rw (d, g) e; is = h }
 
-  pub asked-all : {m q : ℕ} → Asking words f b rest m q → m ≡ 0 → (r : Found) → r.there ≡ false → Shows b r
+  pub asked-all : {m q : ℕ} → Asking words f b rest m q → m ≡ 0 → Shows b code.None
   unfolding first_shown
-  asked-all {m} {q} x e r t = go x.left ((times-exact name-exact m).forth (drop q words) x.left rest x.taken).1 x.is
+  asked-all {m} {q} x e = go x.left ((times-exact name-exact m).forth (drop q words) x.left rest x.taken).1 x.is
     where
-      go : (ns : List Name) → length ns ≡ m → b ≡ first_shown f ns → Shows b r
-      go [] l h = shows_nothing b r h t
+      go : (ns : List Name) → length ns ≡ m → b ≡ first_shown f ns → Shows b code.None
+      go [] l h = shows-none b h
       go (n ∷ ns) l h = absurd (omega (arith, l, e))
 
   asks-suc : {m q : ℕ} → Asking words f b rest (suc m) q → Asks words f b rest m q
@@ -388,7 +379,7 @@ module _ {words : List ℕ} {f : Name → Option Shown} {b : Option Shown} {rest
   asks m₁ x e = asks-suc (rw e at x)
 
   -- a name that no rule has, and one that a rule has
-  pub asked_here : {m q : ℕ} (x : Asks words f b rest m q) (r : Found) (s : Shown) → f x.first ≡ some s → Shows (some s) r → Shows b r
+  pub asked_here : {m q : ℕ} (x : Asks words f b rest m q) (r : code.Option Found) (s : Shown) → f x.first ≡ some s → Shows (some s) r → Shows b r
   unfolding or_shown
   asked_here x r s e h = subst (λ o. Shows o r) (sym (x.is ∙ ap (λ o. or_shown o (first_shown f x.later)) e)) h
 
@@ -407,7 +398,7 @@ module _ (end : ℕ) (row : List Item) (i : ℕ) (n : Name) (t : Bool) (below : 
 
 -- A rule by the list, and its calls
 
-module _ (end : ℕ) (row : List Item) (hs : List Head) (x : Item) (text : ℕ) (d : x.text ≡ text) (t : Bool) (e : t ≡ type_agrees x.rule.gives (listed_type x.rule.name.text hs)) (r : Found) where
+module _ (end : ℕ) (row : List Item) (hs : List Head) (x : Item) (text : ℕ) (d : x.text ≡ text) (t : Bool) (e : t ≡ type_agrees x.rule.gives (listed_type x.rule.name.text hs)) (r : code.Option Found) where
   pub unlike-here : t ≡ false → Shows (some (record { text = text; name = x.rule.name })) r → Shows (unlike_rule end row hs x) r
   unfolding unlike_rule shown_if or_shown
   unlike-here z h = rw (← e, z, d) h

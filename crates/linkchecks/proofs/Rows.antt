@@ -10,6 +10,7 @@ use lib.Dec.{ltb}
 use lib.ListN.{length, length-append}
 use Rattle.acceptance.proofs.Shape.{Each, NotEmpty}
 use Rattle.base.specs.Common.{same, given}
+use Rattle.std.specs.Prelude as code
 use Rattle.names.specs.Known.{Names}
 use Rattle.objects.proofs.Exact.{all-views}
 use Rattle.objects.proofs.Marks.{or_right}
@@ -27,6 +28,7 @@ use Rattle.linkchecks.specs.Checks.{Finds, Shows}
 use Rattle.linkchecks.specs.Row.{Item, in_text, row_from, last_size, Shown, shown_if, or_shown, first_shown, is_named_below, type_agrees, typed_first, past_row, open_name, unlike_rule, twice_rule}
 use Rattle.linkchecks.specs.Walk.{Ruled, Viewed}
 use Rattle.linkchecks.specs.declared.Found.{Found}
+use Rattle.linkchecks.proofs.Finding.{shows-none}
 use Rattle.linkchecks.proofs.Walking.{views-few}
 
 -- Objects as views
@@ -94,13 +96,16 @@ unfoldable pub shown : Option link.Found → Option Shown
 shown none = none
 shown (some f) = some (record { text = f.text; name = name_of f.word })
 
-finds : (o : Option link.Found) (r : Found) → Shows (shown o) r → Finds o r
+finds : (o : Option link.Found) (r : code.Option Found) → Shows (shown o) r → Finds o r
 unfolding shown Shows Finds name_of
 finds none r x = x
 finds (some f) r x = x
 
-pub finds-by : (o : Option link.Found) (r : Found) (p : Option Shown) → shown o ≡ p → Shows p r → Finds o r
+pub finds-by : (o : Option link.Found) (r : code.Option Found) (p : Option Shown) → shown o ≡ p → Shows p r → Finds o r
 finds-by o r p e x = finds o r (subst (λ q. Shows q r) (sym e) x)
+
+pub finds-none : (o : Option link.Found) → shown o ≡ none → Finds o code.None
+finds-none o e = finds o code.None (shows-none (shown o) e)
 
 shown-or : (a b : Option link.Found) → shown (or a else b) ≡ or_shown (shown a) (shown b)
 unfolding shown or◌else◌ or_shown

@@ -1,5 +1,6 @@
 -- What a check of linking answers: the word that it shows and its text, or nothing.
-use Rattle.std.specs.Prelude.{true, false, List, [], ◌∷◌, ◌≡◌, ℕ, zero, suc, length}
+use Rattle.std.specs.Prelude as code
+use Rattle.std.specs.Prelude.{List, [], ◌∷◌, ◌≡◌, ℕ, zero, suc, IsNone, IsSomeAnd, length}
 use Rattle.std.proofs.Math.Option.{Option, none, some}
 use Rattle.objects.specs.View.{Name, name_of}
 use Rattle.parts.specs.Link as link
@@ -8,19 +9,18 @@ use Rattle.linkchecks.specs.Row.{Shown}
 use Rattle.linkchecks.specs.declared.Found.{Found}
 
 pub record IsAt (text start size : ℕ) (r : Found) : Type 0 where
-  pub there_is : r.there ≡ true
   pub text_is : r.text ≡ text
   pub start_is : r.start ≡ start
   pub len_is : r.len ≡ size
 
-unfoldable pub Finds : Option link.Found → Found → Type 0
-Finds none r = r.there ≡ false
-Finds (some f) r = IsAt f.text f.word.start (length f.word.text) r
+unfoldable pub Finds : Option link.Found → code.Option Found → Type 0
+Finds none r = IsNone r
+Finds (some f) r = IsSomeAnd r (IsAt f.text f.word.start (length f.word.text))
 
 -- the same of a name
-unfoldable pub Shows : Option Shown → Found → Type 0
-Shows none r = r.there ≡ false
-Shows (some s) r = IsAt s.text s.name.start (length s.name.text) r
+unfoldable pub Shows : Option Shown → code.Option Found → Type 0
+Shows none r = IsNone r
+Shows (some s) r = IsSomeAnd r (IsAt s.text s.name.start (length s.name.text))
 
 -- the name of the rule at k
 unfoldable pub name_at : List OpenRule → ℕ → Name

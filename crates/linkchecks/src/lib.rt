@@ -1,8 +1,7 @@
 // The checks of linking over the words of objects: the count of objects, then 5, 49, 50 and 9. Words handed in are objects already (`objects` tells 40).
 #![tactic(auto)]
 
-ghost use Rattle.std.specs.Prelude.{false, ◌&&◌, List, [], ◌∷◌, ◌++◌, ◌≡◌, ℕ, suc, ◌/◌, ◌+◌, ◌<◌, ◌≤◌, ltb, length, get_or, drop};
-ghost use Rattle.std.proofs.Math.Option.{some};
+ghost use Rattle.std.specs.Prelude.{◌&&◌, List, [], ◌∷◌, ◌++◌, ◌≡◌, ℕ, suc, ◌/◌, ◌+◌, ◌<◌, ◌≤◌, IfSome, unwrap_or, ltb, length, get_or, drop};
 ghost use Rattle.base.specs.Common.{same};
 ghost use Rattle.machine.specs.Bytes.{words_of};
 ghost use Rattle.names.specs.Known.{Names};
@@ -12,7 +11,7 @@ ghost use Rattle.objects.specs.View.{Name, RuleView, View, name_words, rule_word
 ghost use Rattle.parts.specs.Form.{AreObjects, last_length};
 ghost use Rattle.parts.specs.Link.{rules_of, first_typed, listed_type, unlike_in, twice_in, past_limit_in};
 ghost use Rattle.syntax.specs.Texts.{Head, Common};
-ghost use Rattle.linkchecks.specs.Checks.{Finds, Shows, name_at};
+ghost use Rattle.linkchecks.specs.Checks.{IsAt, Finds, Shows, name_at};
 ghost use Rattle.linkchecks.specs.Row.{Item, row_from, last_size, first_shown, is_named_below, type_agrees, line_of, open_name, unlike_rule};
 ghost use Rattle.linkchecks.specs.Walk.{Viewed, Before, Stands};
 
@@ -49,10 +48,9 @@ pub struct Cursor {
     pub left: usize,
 }
 
-// What a check shows: a part of a text, or nothing.
+// What a check shows: a part of a text.
 #[derive(Clone, Copy, Debug, PartialEq, Eq)]
 pub struct Found {
-    pub there: bool,
     pub text: usize,
     pub start: usize,
     pub len: usize,
@@ -184,28 +182,12 @@ pub fn count_rules(objects: &[u8], common: &[u8]) -> usize
     count_all(objects, common).rules
 }
 
-fn nothing() -> Found
-    ensures { result.there ≡ false }
-{
-    Found {
-        there: false,
-        text: 0,
-        start: 0,
-        len: 0,
-    }
-}
-
 // The name at a place.
 fn found_at(objects: &[u8], text: usize, p: usize) -> Found
-    requires { p ≤ length (words_of objects.now) }
-    ensures { (n : Name) (k : List ℕ) → drop p (words_of objects.now) ≡ name_words n ++ k → Shows (some (record { text = text; name = n })) result }
+    requires { p < 9223372036854775808 }
+    ensures { (n : Name) (k : List ℕ) → drop p (words_of objects.now) ≡ name_words n ++ k → IsAt text n.start (length n.text) result }
 {
-    let end = total(objects);
-    if p == end {
-        return nothing();
-    }
     Found {
-        there: true,
         text,
         start: number(objects, p),
         len: number(objects, p + NAME_SIZE),
@@ -213,17 +195,15 @@ fn found_at(objects: &[u8], text: usize, p: usize) -> Found
 }
 
 // 5: the first rule of all has a type.
-pub fn first_typed(objects: &[u8], common: &[u8]) -> Found
+pub fn first_typed(objects: &[u8], common: &[u8]) -> Option<Found>
     ensures { (c : Common) (n : Names) (h : AreObjects common.now c n (words_of objects.now)) → Finds (first_typed (rules_of h.objects)) result }
 {
     let cursor = first_rule(objects, common);
-    let Some(gives) = past_name(objects, cursor.at) else {
-        return nothing();
-    };
+    let gives = past_name(objects, cursor.at)?;
     if gives == total(objects) || number(objects, gives) == 0 {
-        return nothing();
+        return None;
     }
-    found_at(objects, 1, cursor.at)
+    Some(found_at(objects, 1, cursor.at))
 }
 
 // The rule at the cursor is of a text before the text `below`, and has the name at p.
@@ -251,20 +231,20 @@ fn is_named(objects: &[u8], common: &[u8], below: usize, p: usize) -> bool
     false
 }
 
-// The line of the list with the name at p; the number of lines where there is none.
-fn find_line(objects: &[u8], p: usize, common: &[u8], heads: &[u16]) -> usize
+// The line of the list with the name at p.
+fn find_line(objects: &[u8], p: usize, common: &[u8], heads: &[u16]) -> Option<usize>
     requires { p ≤ length (words_of objects.now) }
-    ensures { (result ≤ length heads.now / 4) × ((hs : List Head) (n : Name) → HeadsAt common.now heads.now hs → NameAt (words_of objects.now) p n → result ≡ line_of n.text hs) }
+    ensures within { IfSome result (λ i. i < length heads.now / 4) }
+    ensures is { (hs : List Head) (n : Name) → HeadsAt common.now heads.now hs → NameAt (words_of objects.now) p n → unwrap_or result (length heads.now / 4) ≡ line_of n.text hs }
 {
-    let count = heads.len() / HEAD_NUMBERS;
-    for i in 0..count {
+    for i in 0..heads.len() / HEAD_NUMBERS {
         let start = usize::from(heads[HEAD_NUMBERS * i]);
         let size = usize::from(heads[HEAD_NUMBERS * i + HEAD_SIZE]);
         if is_part(objects, p, common, start, size) {
-            return i;
+            return Some(i);
         }
     }
-    count
+    None
 }
 
 // The rule at a place is of the sort and type that the list says.
@@ -272,27 +252,26 @@ fn is_alike(objects: &[u8], at: usize, common: &[u8], heads: &[u16]) -> bool
     requires { at ≤ length (words_of objects.now) }
     ensures { (hs : List Head) (v : RuleView) (k : List ℕ) → HeadsAt common.now heads.now hs → drop at (words_of objects.now) ≡ rule_words v ++ k → result ≡ type_agrees v.gives (listed_type v.name.text hs) }
 {
-    let count = heads.len() / HEAD_NUMBERS;
-    let line = find_line(objects, at, common, heads);
     let Some(gives) = past_name(objects, at) else {
         return false;
     };
     if gives == total(objects) {
         return false;
     }
+    let listed = find_line(objects, at, common, heads);
     if number(objects, gives) == 0 {
-        return line == count;
+        return listed.is_none();
     }
-    if line == count {
+    let Some(line) = listed else {
         return false;
-    }
+    };
     let start = usize::from(heads[HEAD_NUMBERS * line + HEAD_TYPE]);
     let size = usize::from(heads[HEAD_NUMBERS * line + HEAD_TYPE_SIZE]);
     is_part(objects, gives + 1, common, start, size)
 }
 
 // The first of n names from a place on that no rule has.
-fn open_name(objects: &[u8], common: &[u8], text: usize, at: usize, n: usize) -> Found
+fn open_name(objects: &[u8], common: &[u8], text: usize, at: usize, n: usize) -> Option<Found>
     requires { at ≤ length (words_of objects.now) }
     ensures { (vs : List View) (ns : List Name) (rest : List ℕ) → Viewed common.now (words_of objects.now) vs → times n a_name (drop at (words_of objects.now)) ≡ took ns rest
         → Shows (first_shown (open_name (length (words_of objects.now) + 1) (row_from 1 vs) text) ns) result }
@@ -301,48 +280,41 @@ fn open_name(objects: &[u8], common: &[u8], text: usize, at: usize, n: usize) ->
     let mut q = at;
     for _ in 0..n {
         if !is_named(objects, common, end + 1, q) {
-            return found_at(objects, text, q);
+            return Some(found_at(objects, text, q));
         }
-        let Some(next) = past_name(objects, q) else {
-            return nothing();
-        };
-        q = next;
+        q = past_name(objects, q)?;
     }
-    nothing()
+    None
 }
 
 // The first call of the rule at a place that calls no rule.
-fn open_call(objects: &[u8], common: &[u8], text: usize, at: usize) -> Found
+fn open_call(objects: &[u8], common: &[u8], text: usize, at: usize) -> Option<Found>
     requires { at ≤ length (words_of objects.now) }
     ensures { (vs : List View) (v : RuleView) (k : List ℕ) → Viewed common.now (words_of objects.now) vs → drop at (words_of objects.now) ≡ rule_words v ++ k
         → Shows (first_shown (open_name (length (words_of objects.now) + 1) (row_from 1 vs) text) v.calls) result }
 {
-    let Some(gives) = past_name(objects, at) else {
-        return nothing();
-    };
-    let Some(calls) = past_option(objects, gives) else {
-        return nothing();
-    };
+    let gives = past_name(objects, at)?;
+    let calls = past_option(objects, gives)?;
     if calls == total(objects) {
-        return nothing();
+        return None;
     }
     open_name(objects, common, text, calls + 1, number(objects, calls))
 }
 
 // The rule at the cursor, where it is not as the list says, or its first open call.
-fn unlike_rule(objects: &[u8], common: &[u8], heads: &[u16], cursor: Cursor) -> Found
-    requires { cursor.at ≤ length (words_of objects.now) }
+fn unlike_rule(objects: &[u8], common: &[u8], heads: &[u16], cursor: Cursor) -> Option<Found>
+    requires { (cursor.at ≤ length (words_of objects.now)) × (cursor.at < 9223372036854775808) }
     ensures { (hs : List Head) (vs : List View) (x : Item) (row : List Item) → HeadsAt common.now heads.now hs → Viewed common.now (words_of objects.now) vs
         → Stands common.now (words_of objects.now) vs cursor (x ∷ row) → Shows (unlike_rule (length (words_of objects.now) + 1) (row_from 1 vs) hs x) result }
 {
     if !is_alike(objects, cursor.at, common, heads) {
-        return found_at(objects, cursor.text, cursor.at);
+        return Some(found_at(objects, cursor.text, cursor.at));
     }
     open_call(objects, common, cursor.text, cursor.at)
 }
 
 // 49: a rule of another sort or type than the list says, or a called rule in no part.
-pub fn find_unlike(objects: &[u8], common: &[u8], heads: &[u16]) -> Found
+pub fn find_unlike(objects: &[u8], common: &[u8], heads: &[u16]) -> Option<Found>
     ensures { (c : Common) (n : Names) (h : AreObjects common.now c n (words_of objects.now)) → HeadsAt common.now heads.now c.listed
         → Finds (unlike_in c.listed (rules_of h.objects) 1 h.objects) result }
 {
@@ -351,16 +323,16 @@ pub fn find_unlike(objects: &[u8], common: &[u8], heads: &[u16]) -> Found
     // no range: a rule says where the next stands
     while cursor.at < end {
         let found = unlike_rule(objects, common, heads, cursor);
-        if found.there {
+        if found.is_some() {
             return found;
         }
         cursor = next_rule(objects, common, cursor);
     }
-    nothing()
+    None
 }
 
 // 50: a rule whose name a part before has.
-pub fn find_twice(objects: &[u8], common: &[u8]) -> Found
+pub fn find_twice(objects: &[u8], common: &[u8]) -> Option<Found>
     ensures { (c : Common) (n : Names) (h : AreObjects common.now c n (words_of objects.now)) → Finds (twice_in [] 1 h.objects) result }
 {
     let end = total(objects);
@@ -368,15 +340,15 @@ pub fn find_twice(objects: &[u8], common: &[u8]) -> Found
     // no range: a rule says where the next stands
     while cursor.at < end {
         if is_named(objects, common, cursor.text, cursor.at) {
-            return found_at(objects, cursor.text, cursor.at);
+            return Some(found_at(objects, cursor.text, cursor.at));
         }
         cursor = next_rule(objects, common, cursor);
     }
-    nothing()
+    None
 }
 
 // 9: the first rule past so many.
-pub fn past_limit(objects: &[u8], common: &[u8], left: usize) -> Found
+pub fn past_limit(objects: &[u8], common: &[u8], left: usize) -> Option<Found>
     ensures { (c : Common) (n : Names) (h : AreObjects common.now c n (words_of objects.now)) → Finds (past_limit_in left 1 h.objects) result }
 {
     let end = total(objects);
@@ -385,12 +357,12 @@ pub fn past_limit(objects: &[u8], common: &[u8], left: usize) -> Found
     // no range: a rule says where the next stands
     while cursor.at < end {
         if i == left {
-            return found_at(objects, cursor.text, cursor.at);
+            return Some(found_at(objects, cursor.text, cursor.at));
         }
         cursor = next_rule(objects, common, cursor);
         i += 1;
     }
-    nothing()
+    None
 }
 
 // p as the number at i, where there is room.
