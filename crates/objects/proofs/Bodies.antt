@@ -136,7 +136,7 @@ same_test : (hs : List Head) (ps : List Pair) (v : RuleView) (b c i : Bool) (lef
 unfolding rule_in_order
 same_test hs ps v b c i left e f l d = rw (f, e, l, d)
 
-pub rule-tested : {common heads words : List ℕ} {g : Ground} {d : Depth} {b : Body} {o : Outcome} {r : Bool} (hs : List Head) (ps : List Pair) (v : RuleView) → Knows common heads words g hs ps
+pub rule-tested : {common heads words : List ℕ} {g : Ground} {d : Depth} {b : Body} {o : code.Option Outcome} {r : Bool} (hs : List Head) (ps : List Pair) (v : RuleView) → Knows common heads words g hs ps
     → g.valued ≡ b.valued → d.left ≡ 32 → d.inside ≡ false → (b.valued ≡ given v.gives) × Stand words b.spot v.cells v.calls → ActsDone common heads words g d b.spot o
     → ((words : List ℕ) (w : Option Went) → Tells words w o → r ≡ used_up b.valued w) → r ≡ rule_in_order hs ps v
 rule-tested {words = words} {g = g} {d = d} {b = b} hs ps v kn f l i x y u =

@@ -22,7 +22,7 @@ use Rattle.objects.specs.declared.Depth.{Depth}
 use Rattle.objects.specs.declared.Ground.{Ground}
 use Rattle.objects.specs.declared.Outcome.{Outcome}
 use Rattle.objects.specs.declared.Spot.{Spot}
-use Rattle.objects.specs.Cells.{along, Within, Stand, Is, Tells, Does, went, with_operand, OperandDone, with_name, NameDone, CallOk, SortDone, SimpleDone, selecting, asks, AskedDone, BareDone, some_labels, LabelsDone}
+use Rattle.objects.specs.Cells.{along, yes, Reaches, Within, Stand, Is, Tells, Does, went, with_operand, OperandDone, with_name, NameDone, CallOk, SortDone, SimpleDone, selecting, asks, AskedDone, BareDone, some_labels, LabelsDone}
 use Rattle.objects.specs.Order.{Sort, ends, leaves, turns, alone, taking, calling, returning, giving, token, ruled, asking, asking_with, unknown, sort_of, arm_of, Went, deeper, on_operand, on_call, is_listed, stands_at, call_ok, rule_ok, Actions, Choices, an_act, an_arm, acts, arms, used_up}
 use Rattle.objects.specs.Places.{Ends, NameAt}
 use Rattle.objects.specs.View.{Name, Pair, name_words, all, a_name}
@@ -116,51 +116,73 @@ call-on {words} {s} {t} {m} {cells} {n} {names} x y a b d =
 
 -- Outcomes
 
-pub tells_none : {words : List ℕ} {r : Outcome} → r.ok ≡ false → Tells words none r
-unfolding Is
-tells_none e = record { is = e }
+pub reaches-then : {words : List ℕ} {s t : Spot} (r : code.Option Outcome) → Within words s t → Reaches words t r → Reaches words s r
+reaches-then code.None x y = tt
+reaches-then (code.Some o) x y = within-then x y
 
-pub tells-some : {words : List ℕ} {s : Spot} {cells : List ℕ} {names : List Name} {p e : Bool} {r : Outcome} → r.ok ≡ true → r.spot ≡ s → r.past ≡ p → r.exits ≡ e → Stand words s cells names → Tells words (some (went cells names p e)) r
+pub tells_none : {words : List ℕ} {r : code.Option Outcome} → r ≡ code.None → Tells words none r
 unfolding Is
-tells-some a b d e x = record { is = (a, stand-at b x, d, e) }
+tells_none e = record { is = rw e refl }
 
-pub tells_as : {words : List ℕ} {o o₁ : Option Went} {r : Outcome} → o ≡ o₁ → Tells words o₁ r → Tells words o r
+pub tells-some : {words : List ℕ} {s : Spot} {cells : List ℕ} {names : List Name} {p e : Bool} {r : code.Option Outcome} → r ≡ yes s p e → Stand words s cells names → Tells words (some (went cells names p e)) r
+unfolding Is
+tells-some a x = rw a (record { is = (x, refl, refl) })
+
+pub tells_as : {words : List ℕ} {o o₁ : Option Went} {r : code.Option Outcome} → o ≡ o₁ → Tells words o₁ r → Tells words o r
 tells_as e x = rw e x
 
+-- of nothing in order nothing is told
+pub told-none : {words : List ℕ} (o : Option Went) → Tells words o code.None → o ≡ none
+unfolding Is
+told-none none x = refl
+told-none (some w) x = absurd x.is
+
+-- and something of what is
+pub record Told (words : List ℕ) (o : Option Went) (r : Outcome) : Type 0 where
+  pub cells : List ℕ
+  pub names : List Name
+  pub is : o ≡ some (went cells names r.past r.exits)
+  pub stand : Stand words r.spot cells names
+
+pub told-some : {words : List ℕ} (o : Option Went) (r : Outcome) → Tells words o (code.Some r) → Told words o r
+unfolding Is
+told-some none r x = bools.never (sym x.is)
+told-some (some w) r x = let y = x.is in record { cells = w.cells; names = w.names; is = rw (y.1, y.2) refl; stand = y.0 }
+
 -- nothing is in order there
-pub does-none : {words : List ℕ} {s : Spot} {f : List ℕ → List Name → Option Went} {r : Outcome} → r.ok ≡ false → ((cells : List ℕ) (names : List Name) → Stand words s cells names → f cells names ≡ none) → Does words s f r
+pub does-none : {words : List ℕ} {s : Spot} {f : List ℕ → List Name → Option Went} {r : code.Option Outcome} → r ≡ code.None → ((cells : List ℕ) (names : List Name) → Stand words s cells names → f cells names ≡ none) → Does words s f r
 does-none e h = record { tells = λ cells names x. tells_as (h cells names x) (tells_none e) }
 
 -- everything is
-pub does-some : {words : List ℕ} {s : Spot} {p e : Bool} {r : Outcome} → r.ok ≡ true → r.spot ≡ s → r.past ≡ p → r.exits ≡ e → Does words s (λ cells names. some (went cells names p e)) r
-does-some a b d e = record { tells = λ cells names x. tells-some a b d e x }
+pub does-some : {words : List ℕ} {s : Spot} {p e : Bool} {r : code.Option Outcome} → r ≡ yes s p e → Does words s (λ cells names. some (went cells names p e)) r
+does-some a = record { tells = λ cells names x. tells-some a x }
 
-pub does-as : {words : List ℕ} {s : Spot} {f g : List ℕ → List Name → Option Went} {r : Outcome} → ((cells : List ℕ) (names : List Name) → f cells names ≡ g cells names) → Does words s g r → Does words s f r
+pub does-as : {words : List ℕ} {s : Spot} {f g : List ℕ → List Name → Option Went} {r : code.Option Outcome} → ((cells : List ℕ) (names : List Name) → f cells names ≡ g cells names) → Does words s g r → Does words s f r
 does-as h x = record { tells = λ cells names y. tells_as (h cells names) (x.tells cells names y) }
 
 -- An operand
 
-pub operand-none : (words : List ℕ) {s : Spot} {past : Bool} {r : Outcome} → s.cell ≡ s.end → r.ok ≡ false → r.spot ≡ s → OperandDone words s past r
+pub operand-none : (words : List ℕ) {s : Spot} {past : Bool} {r : code.Option Outcome} → s.cell ≡ s.end → r ≡ code.None → OperandDone words s past r
 unfolding on_operand
-operand-none words {s} {past} {r} l a b = record { within = within_same words b; does = does-none a (λ cells names x. go cells names x (none_left x l)) }
+operand-none words {s} {past} {r} l a = record { within = rw a tt; does = does-none a (λ cells names x. go cells names x (none_left x l)) }
   where
     go : (cells : List ℕ) (names : List Name) → Stand words s cells names → cells ≡ [] → with_operand past cells names ≡ none
     go cells names x e = rw e
 
-pub operand-some : (words : List ℕ) {s : Spot} {past : Bool} {r : Outcome} → s.cell < s.end → r.ok ≡ true → r.spot ≡ along 1 s → r.past ≡ past → r.exits ≡ false → OperandDone words s past r
+pub operand-some : (words : List ℕ) {s : Spot} {past : Bool} {r : code.Option Outcome} → s.cell < s.end → r ≡ yes (along 1 s) past false → OperandDone words s past r
 unfolding on_operand
-operand-some words {s} {past} {r} l a b d e = record { within = within-along words 1 (omega (arith, l)) b; does = record { tells = go } }
+operand-some words {s} {past} {r} l a = record { within = rw a (within-along words 1 (omega (arith, l)) refl); does = record { tells = go } }
   where
     go : (cells : List ℕ) (names : List Name) → Stand words s cells names → Tells words (with_operand past cells names) r
     go [] names x = let n = x.cells_count in absurd (omega (arith, n, l))
-    go (c ∷ cells) names x = tells-some a b d e (cell-on x)
+    go (c ∷ cells) names x = tells-some a (cell-on x)
 
 -- A call
 
-pub name-none : {words : List ℕ} {s : Spot} {b : Bool} {r : Outcome} → r.ok ≡ false → r.spot ≡ s
+pub name-none : {words : List ℕ} {s : Spot} {b : Bool} {r : code.Option Outcome} → r ≡ code.None
     → ((m : ℕ) (n : Name) (cells : List ℕ) (names : List Name) → Stand words s (m ∷ cells) (n ∷ names) → b ≡ false) → NameDone words s b r
 unfolding on_call
-name-none {words} {s} {b} {r} a d h = record { within = within_same words d; does = λ test same. record { tells = go test same } }
+name-none {words} {s} {b} {r} a h = record { within = rw a tt; does = λ test same. record { tells = go test same } }
   where
     go : (test : ℕ → Name → Bool) → ((m : ℕ) (n : Name) (cells : List ℕ) (names : List Name) → Stand words s (m ∷ cells) (n ∷ names) → b ≡ test m n)
         → (cells : List ℕ) (names : List Name) → Stand words s cells names → Tells words (with_name test cells names) r
@@ -168,11 +190,11 @@ name-none {words} {s} {b} {r} a d h = record { within = within_same words d; doe
     go test same (m ∷ cells) [] x = tells_none a
     go test same (m ∷ cells) (n ∷ names) x = rw (sym (same m n cells names x) ∙ h m n cells names x) (tells_none a)
 
-pub name-some : {words : List ℕ} {s : Spot} {b : Bool} {r : Outcome} → s.cell < s.end → 0 < s.names → b ≡ true → Ends a_name words s.name (code.Some r.spot.name) → r.spot.name ≤ length words → r.spot.cell ≡ s.cell + 1
-    → r.spot.end ≡ s.end → r.spot.names + 1 ≡ s.names → r.ok ≡ true → r.past ≡ true → r.exits ≡ false → NameDone words s b r
+pub name-some : {words : List ℕ} {s t : Spot} {b : Bool} {r : code.Option Outcome} → s.cell < s.end → 0 < s.names → b ≡ true → Ends a_name words s.name (code.Some t.name) → t.name ≤ length words → t.cell ≡ s.cell + 1
+    → t.end ≡ s.end → t.names + 1 ≡ s.names → r ≡ yes t true false → NameDone words s b r
 unfolding on_call
-name-some {words} {s} {b} {r} l m t y u a d e o p q = record {
-  within = record { low = omega (arith, a); high = λ _. omega (arith, a, d, l); same = d; named = λ _. u };
+name-some {words} {s} {t} {b} {r} l m h y u a d e o = record {
+  within = rw o (record { low = omega (arith, a); high = λ _. omega (arith, a, d, l); same = d; named = λ _. u });
   does = λ test same. record { tells = go test same };
 }
   where
@@ -180,7 +202,7 @@ name-some {words} {s} {b} {r} l m t y u a d e o p q = record {
         → (cells : List ℕ) (names : List Name) → Stand words s cells names → Tells words (with_name test cells names) r
     go test same [] names x = let n = x.cells_count in absurd (omega (arith, n, l))
     go test same (c ∷ cells) [] x = let n = x.names_count in absurd (omega (arith, n, m))
-    go test same (c ∷ cells) (n ∷ names) x = rw (sym (same c n cells names x) ∙ t) (tells-some o refl p q (call-on x y a d e))
+    go test same (c ∷ cells) (n ∷ names) x = rw (sym (same c n cells names x) ∙ h) (tells-some o (call-on x y a d e))
 
 -- the mark 0 and any other
 pub call-named : (hs : List Head) (ps : List Pair) (m : ℕ) (n : Name) → m ≡ 0 → call_ok hs ps m n ≡ not (is_listed hs n)
@@ -238,26 +260,26 @@ sort-few x l h n = go (lt-or-le x 4) (lt-or-le x 6)
     go (inr a) (inl b) = let e : x ≡ 5 = omega (arith, a, b, n) in rw e
     go (inr a) (inr b) = let e : x ≡ 6 = omega (arith, b, h) in rw e
 
-module _ (words : List ℕ) {s : Spot} {x : ℕ} {r : Outcome} where
-  pub simple-alone : sort_of x ≡ alone → r.ok ≡ true → r.spot ≡ s → r.past ≡ true → r.exits ≡ false → SimpleDone words s x r
+module _ (words : List ℕ) {s : Spot} {x : ℕ} {r : code.Option Outcome} where
+  pub simple-alone : sort_of x ≡ alone → r ≡ yes s true false → SimpleDone words s x r
   unfolding an_act
-  simple-alone q a b d e = record { within = within_same words b; does = λ hs ps v inner choices left c. rw q (does-some a b d e) }
+  simple-alone q a = record { within = rw a (within_same words refl); does = λ hs ps v inner choices left c. rw q (does-some a) }
 
   pub simple-taking : sort_of x ≡ taking → OperandDone words s true r → SimpleDone words s x r
   unfolding an_act
   simple-taking q y = record { within = y.within; does = λ hs ps v inner choices left c. rw q (does-as (λ cells names. refl) y.does) }
 
-  pub simple-unknown : sort_of x ≡ unknown → r.ok ≡ false → r.spot ≡ s → SimpleDone words s x r
+  pub simple-unknown : sort_of x ≡ unknown → r ≡ code.None → SimpleDone words s x r
   unfolding an_act
-  simple-unknown q a b = record { within = within_same words b; does = λ hs ps v inner choices left c. rw q (does-none a (λ cells names y. refl)) }
+  simple-unknown q a = record { within = rw a tt; does = λ hs ps v inner choices left c. rw q (does-none a (λ cells names y. refl)) }
 
-  pub simple-ends : x ≡ 0 → r.ok ≡ false → r.spot ≡ s → SimpleDone words s x r
+  pub simple-ends : x ≡ 0 → r ≡ code.None → SimpleDone words s x r
   unfolding an_act sort_of
-  simple-ends q a b = record { within = within_same words b; does = λ hs ps v inner choices left c. rw q (does-none a (λ cells names y. refl)) }
+  simple-ends q a = record { within = rw a tt; does = λ hs ps v inner choices left c. rw q (does-none a (λ cells names y. refl)) }
 
-  pub simple-any : x ≡ 4 → r.ok ≡ true → r.spot ≡ s → r.past ≡ true → r.exits ≡ false → SimpleDone words s x r
+  pub simple-any : x ≡ 4 → r ≡ yes s true false → SimpleDone words s x r
   unfolding an_act sort_of
-  simple-any q a b d e = record { within = within_same words b; does = λ hs ps v inner choices left c. rw q (does-some a b d e) }
+  simple-any q a = record { within = rw a (within_same words refl); does = λ hs ps v inner choices left c. rw q (does-some a) }
 
 -- Plain actions
 
@@ -287,19 +309,19 @@ on_true b y z e = rw e
 pub on_false : {A : Type 0} (b : Bool) (y z : A) → b ≡ false → (if b then y else z) ≡ z
 on_false b y z e = rw e
 
-module _ {common heads words : List ℕ} {g : Ground} {d : Depth} {s : Spot} {x : ℕ} {r : Outcome} where
+module _ {common heads words : List ℕ} {g : Ground} {d : Depth} {s : Spot} {x : ℕ} {r : code.Option Outcome} where
   pub plain-simple : SimpleDone words s x r → SortDone common heads words g d s (sort_of x) r
   plain-simple y = record { within = y.within; does = λ hs ps kn k l. y.does hs ps g.valued (λ l d s n. acts hs ps g.valued k l d s n) (λ l d b t r s n. arms hs ps g.valued k l d b t r s n) d.left d.inside }
 
-  pub plain-exit : x ≡ 1 → d.inside ≡ true → r.ok ≡ true → r.spot ≡ s → r.past ≡ false → r.exits ≡ true → SortDone common heads words g d s (sort_of x) r
-  plain-exit q i a b e f = record {
-    within = within_same words b;
-    does = λ hs ps kn k l. does-as (λ cells names. act-leaves hs ps g.valued _ _ d.left d.inside x cells names q ∙ on_true d.inside _ _ i) (does-some a b e f);
+  pub plain-exit : x ≡ 1 → d.inside ≡ true → r ≡ yes s false true → SortDone common heads words g d s (sort_of x) r
+  plain-exit q i a = record {
+    within = rw a (within_same words refl);
+    does = λ hs ps kn k l. does-as (λ cells names. act-leaves hs ps g.valued _ _ d.left d.inside x cells names q ∙ on_true d.inside _ _ i) (does-some a);
   }
 
-  pub plain-no-exit : x ≡ 1 → d.inside ≡ false → r.ok ≡ false → r.spot ≡ s → SortDone common heads words g d s (sort_of x) r
-  plain-no-exit q i a b = record {
-    within = within_same words b;
+  pub plain-no-exit : x ≡ 1 → d.inside ≡ false → r ≡ code.None → SortDone common heads words g d s (sort_of x) r
+  plain-no-exit q i a = record {
+    within = rw a tt;
     does = λ hs ps kn k l. does-none a (λ cells names _. act-leaves hs ps g.valued _ _ d.left d.inside x cells names q ∙ on_false d.inside _ _ i);
   }
 
@@ -309,15 +331,15 @@ module _ {common heads words : List ℕ} {g : Ground} {d : Depth} {s : Spot} {x 
     does = λ hs ps kn k l. does-as (λ cells names. act-calling hs ps g.valued _ _ d.left d.inside x cells names q) (z.does (call_ok hs ps) (y.tells hs ps kn));
   }
 
-  pub plain_back : x ≡ 9 → g.valued ≡ false → r.ok ≡ true → r.spot ≡ s → r.past ≡ false → r.exits ≡ false → SortDone common heads words g d s (sort_of x) r
-  plain_back q i a b e f = record {
-    within = within_same words b;
-    does = λ hs ps kn k l. does-as (λ cells names. act-returning hs ps g.valued _ _ d.left d.inside x cells names q ∙ on_false g.valued _ _ i) (does-some a b e f);
+  pub plain_back : x ≡ 9 → g.valued ≡ false → r ≡ yes s false false → SortDone common heads words g d s (sort_of x) r
+  plain_back q i a = record {
+    within = rw a (within_same words refl);
+    does = λ hs ps kn k l. does-as (λ cells names. act-returning hs ps g.valued _ _ d.left d.inside x cells names q ∙ on_false g.valued _ _ i) (does-some a);
   }
 
-  pub plain-no-back : x ≡ 9 → g.valued ≡ true → r.ok ≡ false → r.spot ≡ s → SortDone common heads words g d s (sort_of x) r
-  plain-no-back q i a b = record {
-    within = within_same words b;
+  pub plain-no-back : x ≡ 9 → g.valued ≡ true → r ≡ code.None → SortDone common heads words g d s (sort_of x) r
+  plain-no-back q i a = record {
+    within = rw a tt;
     does = λ hs ps kn k l. does-none a (λ cells names _. act-returning hs ps g.valued _ _ d.left d.inside x cells names q ∙ on_true g.valued _ _ i);
   }
 
@@ -327,9 +349,9 @@ module _ {common heads words : List ℕ} {g : Ground} {d : Depth} {s : Spot} {x 
     does = λ hs ps kn k l. does-as (λ cells names. act-giving hs ps g.valued _ _ d.left d.inside x cells names q ∙ on_true g.valued _ _ i) y.does;
   }
 
-  pub plain-no-give : x ≡ 10 → g.valued ≡ false → r.ok ≡ false → r.spot ≡ s → SortDone common heads words g d s (sort_of x) r
-  plain-no-give q i a b = record {
-    within = within_same words b;
+  pub plain-no-give : x ≡ 10 → g.valued ≡ false → r ≡ code.None → SortDone common heads words g d s (sort_of x) r
+  plain-no-give q i a = record {
+    within = rw a tt;
     does = λ hs ps kn k l. does-none a (λ cells names _. act-giving hs ps g.valued _ _ d.left d.inside x cells names q ∙ on_false g.valued _ _ i);
   }
 
@@ -343,18 +365,18 @@ deeper-none left = go (eqb left 0)
     go true = refl
     go false = refl
 
-module _ (words : List ℕ) {s : Spot} {x : ℕ} {r : Outcome} where
-  pub asked-alone : x < 1024 → r.ok ≡ true → r.spot ≡ s → r.past ≡ true → r.exits ≡ false → AskedDone words s x r
+module _ (words : List ℕ) {s : Spot} {x : ℕ} {r : code.Option Outcome} where
+  pub asked-alone : x < 1024 → r ≡ yes s true false → AskedDone words s x r
   unfolding asks
-  asked-alone l a b d e = record { within = within_same words b; does = does-as (λ cells names. rw (lt-ltb x 1024 l)) (does-some a b d e) }
+  asked-alone l a = record { within = rw a (within_same words refl); does = does-as (λ cells names. rw (lt-ltb x 1024 l)) (does-some a) }
 
   pub asked-with : 1024 ≤ x → x < 1280 → OperandDone words s true r → AskedDone words s x r
   unfolding asks
   asked-with l m y = record { within = y.within; does = does-as (λ cells names. rw (le-ltb x 1024 l, lt-ltb x 1280 m)) y.does }
 
-  pub asked-none : 1280 ≤ x → r.ok ≡ false → r.spot ≡ s → AskedDone words s x r
+  pub asked-none : 1280 ≤ x → r ≡ code.None → AskedDone words s x r
   unfolding asks
-  asked-none l a b = record { within = within_same words b; does = does-none a (λ cells names y. rw (le-ltb x 1024 (omega (arith, l)), le-ltb x 1280 l)) }
+  asked-none l a = record { within = rw a tt; does = does-none a (λ cells names y. rw (le-ltb x 1024 (omega (arith, l)), le-ltb x 1280 l)) }
 
 -- a choice by an operation: its selector, then its alternatives
 pub act-asked-is : (hs : List Head) (ps : List Pair) (v : Bool) (inner : Actions hs ps v) (choices : Choices hs ps v) (left : ℕ) (c : Bool) (x : ℕ) (cells : List ℕ) (names : List Name) → 768 ≤ x
@@ -375,78 +397,76 @@ and-false : (b : Bool) → (b && false) ≡ false
 and-false true = refl
 and-false false = refl
 
-module _ (words : List ℕ) {s : Spot} {n room : ℕ} {r : Outcome} where
-  pub labels-over : room < n → r.ok ≡ false → r.spot ≡ s → LabelsDone words s n room r
+module _ (words : List ℕ) {s : Spot} {n room : ℕ} {r : code.Option Outcome} where
+  pub labels-over : room < n → r ≡ code.None → LabelsDone words s n room r
   unfolding some_labels
-  labels-over l a b = record { within = within_same words b; few = λ t. bools.never (sym a ∙ t); does = does-none a (λ cells names y. rw (lt-leb n room l)) }
+  labels-over l a = record { within = rw a tt; few = rw a tt; does = does-none a (λ cells names y. rw (lt-leb n room l)) }
 
-  pub labels-off : s.end < s.cell + n → r.ok ≡ false → r.spot ≡ s → LabelsDone words s n room r
+  pub labels-off : s.end < s.cell + n → r ≡ code.None → LabelsDone words s n room r
   unfolding some_labels
-  labels-off l a b = record {
-    within = within_same words b;
-    few = λ t. bools.never (sym a ∙ t);
+  labels-off l a = record {
+    within = rw a tt;
+    few = rw a tt;
     does = does-none a (λ cells names y. let m = y.cells_count in rw (lt-leb n (length cells) (omega (arith, m, l)), and-false (leb n room)));
   }
 
-  pub labels-some : n ≤ room → s.cell + n ≤ s.end → r.ok ≡ true → r.spot ≡ along n s → r.past ≡ true → r.exits ≡ false → LabelsDone words s n room r
+  pub labels-some : n ≤ room → s.cell + n ≤ s.end → r ≡ yes (along n s) true false → LabelsDone words s n room r
   unfolding some_labels
-  labels-some l h a b d e = record {
-    within = within-along words n h b;
-    few = λ _. l;
-    does = record { tells = λ cells names y. let m = y.cells_count in let f : n ≤ length cells = omega (arith, m, h) in rw (le-leb n room l, le-leb n (length cells) f) (tells-some a b d e (cells-on n f y)) };
+  labels-some l h a = record {
+    within = rw a (within-along words n h refl);
+    few = rw a l;
+    does = record { tells = λ cells names y. let m = y.cells_count in let f : n ≤ length cells = omega (arith, m, h) in rw (le-leb n room l, le-leb n (length cells) f) (tells-some a (cells-on n f y)) };
   }
 
 -- Alternatives that are but one cell
 
-module _ (words : List ℕ) {s : Spot} {x : ℕ} {tok lab : Bool} {r : Outcome} where
-  pub bare-some : x ≡ 12 → tok ≡ false → r.ok ≡ true → r.spot ≡ s → r.past ≡ false → r.exits ≡ false → BareDone words s x tok lab r
+module _ (words : List ℕ) {s : Spot} {x : ℕ} {tok lab : Bool} {r : code.Option Outcome} where
+  pub bare-some : x ≡ 12 → tok ≡ false → r ≡ yes s false false → BareDone words s x tok lab r
   unfolding an_arm arm_of
-  bare-some q t a b d e = record { within = within_same words b; does = λ hs ps v inner choices left c room. rw (q, t) (does-some a b d e) }
+  bare-some q t a = record { within = rw a (within_same words refl); does = λ hs ps v inner choices left c room. rw (q, t) (does-some a) }
 
-  pub bare-none : x ≡ 12 → tok ≡ true → r.ok ≡ false → r.spot ≡ s → BareDone words s x tok lab r
+  pub bare-none : x ≡ 12 → tok ≡ true → r ≡ code.None → BareDone words s x tok lab r
   unfolding an_arm arm_of
-  bare-none q t a b = record { within = within_same words b; does = λ hs ps v inner choices left c room. rw (q, t) (does-none a (λ cells names y. refl)) }
+  bare-none q t a = record { within = rw a tt; does = λ hs ps v inner choices left c room. rw (q, t) (does-none a (λ cells names y. refl)) }
 
-  pub token-some : x ≡ 14 → (tok && lab) ≡ true → r.ok ≡ true → r.spot ≡ s → r.past ≡ false → r.exits ≡ false → BareDone words s x tok lab r
+  pub token-some : x ≡ 14 → (tok && lab) ≡ true → r ≡ yes s false false → BareDone words s x tok lab r
   unfolding an_arm arm_of
-  token-some q t a b d e = record { within = within_same words b; does = λ hs ps v inner choices left c room. rw (q, t) (does-some a b d e) }
+  token-some q t a = record { within = rw a (within_same words refl); does = λ hs ps v inner choices left c room. rw (q, t) (does-some a) }
 
-  pub token-none : x ≡ 14 → (tok && lab) ≡ false → r.ok ≡ false → r.spot ≡ s → BareDone words s x tok lab r
+  pub token-none : x ≡ 14 → (tok && lab) ≡ false → r ≡ code.None → BareDone words s x tok lab r
   unfolding an_arm arm_of
-  token-none q t a b = record { within = within_same words b; does = λ hs ps v inner choices left c room. rw (q, t) (does-none a (λ cells names y. refl)) }
+  token-none q t a = record { within = rw a tt; does = λ hs ps v inner choices left c room. rw (q, t) (does-none a (λ cells names y. refl)) }
 
-  pub no_arm : x ≤ 64 → (x ≡ 12 → ⊥) → (x ≡ 13 → ⊥) → (x ≡ 14 → ⊥) → r.ok ≡ false → r.spot ≡ s → BareDone words s x tok lab r
+  pub no_arm : x ≤ 64 → (x ≡ 12 → ⊥) → (x ≡ 13 → ⊥) → (x ≡ 14 → ⊥) → r ≡ code.None → BareDone words s x tok lab r
   unfolding an_arm arm_of
-  no_arm l n₁ n₂ n₃ a b = record {
-    within = within_same words b;
+  no_arm l n₁ n₂ n₃ a = record {
+    within = rw a tt;
     does = λ hs ps v inner choices left c room. rw (ne_eqb x 12 n₁, ne_eqb x 13 n₂, ne_eqb x 14 n₃, le-leb x 64 l) (does-none a (λ cells names y. refl));
   }
 
 -- The end of a rule
 
-module _ (v : Bool) {words : List ℕ} {o : Outcome} where
-  pub used-none : (w : Option Went) → o.ok ≡ false → Tells words w o → false ≡ used_up v w
-  unfolding Is used_up
-  used-none none e x = refl
-  used-none (some w) e x = bools.never (sym e ∙ x.is.0)
+module _ (v : Bool) {words : List ℕ} where
+  pub used-none : (w : Option Went) → Tells words w code.None → false ≡ used_up v w
+  unfolding used_up
+  used-none w x = rw (told-none w x)
 
-  pub used-cells : (w : Option Went) → (o.spot.cell ≡ o.spot.end → ⊥) → Tells words w o → false ≡ used_up v w
-  unfolding Is used_up
-  used-cells none e x = refl
-  used-cells (some w) e x = let n = x.is.1.cells_count in rw (ne_eqb (length w.cells) 0 (λ z. e (omega (arith, n, z))))
+  module _ (o : Outcome) (w : Option Went) (x : Tells words w (code.Some o)) where
+    pub used-cells : (o.spot.cell ≡ o.spot.end → ⊥) → false ≡ used_up v w
+    unfolding used_up
+    used-cells e = let y = told-some w o x in let n = y.stand.cells_count in rw (y.is, ne_eqb (length y.cells) 0 (λ z. e (omega (arith, n, z))))
 
-  pub used-names : (w : Option Went) → (o.spot.names ≡ 0 → ⊥) → Tells words w o → false ≡ used_up v w
-  unfolding Is used_up
-  used-names none e x = refl
-  used-names (some w) e x = let n = x.is.1.names_count in rw (ne_eqb (length w.names) 0 (λ z. e (omega (arith, n, z))), and-false (eqb (length w.cells) 0))
+    pub used-names : (o.spot.names ≡ 0 → ⊥) → false ≡ used_up v w
+    unfolding used_up
+    used-names e = let y = told-some w o x in let n = y.stand.names_count in rw (y.is, ne_eqb (length y.names) 0 (λ z. e (omega (arith, n, z))), and-false (eqb (length y.cells) 0))
 
-  pub used_all : (w : Option Went) (b : Bool) → o.ok ≡ true → o.spot.cell ≡ o.spot.end → o.spot.names ≡ 0 → b ≡ (v && o.past) → Tells words w o → not b ≡ used_up v w
-  unfolding Is used_up
-  used_all none b t d e f x = bools.never (sym x.is ∙ t)
-  used_all (some w) b t d e f x =
-      let n = x.is.1.cells_count in
-      let m = x.is.1.names_count in
-      rw (eq-eqb (length w.cells) 0 (omega (arith, n, d)), eq-eqb (length w.names) 0 (omega (arith, m, e)), f, x.is.2)
+    pub used_all : o.spot.cell ≡ o.spot.end → o.spot.names ≡ 0 → not (v && o.past) ≡ used_up v w
+    unfolding used_up
+    used_all d e =
+        let y = told-some w o x in
+        let n = y.stand.cells_count in
+        let m = y.stand.names_count in
+        rw (y.is, eq-eqb (length y.cells) 0 (omega (arith, n, d)), eq-eqb (length y.names) 0 (omega (arith, m, e)))
 
 -- the first cells that are left
 pub left-zero : (x : ℕ) → x < 3 → (x ≡ 1 → ⊥) → (x ≡ 2 → ⊥) → x ≡ 0

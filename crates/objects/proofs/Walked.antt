@@ -8,16 +8,16 @@ use Prim.Native.Nat.{ℕ, zero, suc, ◌+◌, ◌-◌, ◌<◌, ◌≤◌}
 use borrow.Author.Tests.{lt-leb, ne_eqb}
 use lib.Dec.{leb}
 use lib.ListN.{length, get_or, drop}
-use Rattle.base.specs.Bools as bools
+use Rattle.std.specs.Prelude as code
 use Rattle.std.specs.Prelude.{if◌then◌else◌}
 use Rattle.syntax.specs.Texts.{Head}
-use Rattle.objects.proofs.Told.{within_same, within-along, within-then, stand-at, first_cell, cell-on, tells_none, tells-some, tells_as, deeper-none, act-asked-is}
+use Rattle.objects.proofs.Told.{within_same, within-along, within-then, reaches-then, stand-at, first_cell, cell-on, tells_none, tells-some, tells_as, told-none, told-some, deeper-none, act-asked-is}
 use Rattle.objects.specs.declared.Depth.{Depth}
 use Rattle.objects.specs.declared.Ground.{Ground}
 use Rattle.objects.specs.declared.Last.{Last}
 use Rattle.objects.specs.declared.Outcome.{Outcome}
 use Rattle.objects.specs.declared.Spot.{Spot}
-use Rattle.objects.specs.Cells.{along, Within, Stand, Knows, Is, Tells, went, with_name, NameDone, RuleOk, SortDone, selecting, AskedDone, ChoiceDone, ActsDone, ArmsDone, ArmDone, LastDone, BareDone, some_labels, LabelsDone}
+use Rattle.objects.specs.Cells.{along, yes, Within, Stand, Knows, Tells, went, with_name, NameDone, RuleOk, SortDone, selecting, AskedDone, ChoiceDone, ActsDone, ArmsDone, LastDone, BareDone, some_labels, LabelsDone}
 use Rattle.objects.specs.Order.{turns, sort_of, labels, arm_of, Went, joined, in_row, beside, either_of, around, deeper, on_call, rule_ok, Actions, Choices, an_act, an_arm, acts, arms}
 use Rattle.objects.specs.View.{Name, Pair}
 
@@ -62,15 +62,13 @@ unfolding beside
 beside-again p e w none = refl
 beside-again p e w (some r) = rw (or_assoc p w.past r.past, or_assoc e w.exits r.exits)
 
-tells-around : {words : List ℕ} (o : Option Went) {b r : Outcome} → Tells words o b → r.ok ≡ b.ok → r.spot ≡ b.spot → r.past ≡ b.exits → r.exits ≡ false → Tells words (around o) r
-unfolding Is around
-tells-around none x a b d e = tells_none (a ∙ x.is)
-tells-around (some w) x a b d e = tells-some (a ∙ x.is.0) b (d ∙ x.is.3) e x.is.1
+tells-around : {words : List ℕ} (o : Option Went) {b : Outcome} {r : code.Option Outcome} → Tells words o (code.Some b) → r ≡ yes b.spot b.exits false → Tells words (around o) r
+unfolding around
+tells-around o {b} x a = let y = told-some o b x in tells_as (ap around y.is) (tells-some a y.stand)
 
-tells-beside : {words : List ℕ} (o : Option Went) (p e : Bool) {b r : Outcome} → Tells words o b → r.ok ≡ b.ok → r.spot ≡ b.spot → r.past ≡ (p || b.past) → r.exits ≡ (e || b.exits) → Tells words (beside (flags p e) o) r
-unfolding Is beside
-tells-beside none p e x a b d f = tells_none (a ∙ x.is)
-tells-beside (some w) p e x a b d f = tells-some (a ∙ x.is.0) b (d ∙ ap (λ (t : Bool). p || t) x.is.2) (f ∙ ap (λ (t : Bool). e || t) x.is.3) x.is.1
+tells-beside : {words : List ℕ} (o : Option Went) (p e : Bool) {b : Outcome} {r : code.Option Outcome} → Tells words o (code.Some b) → r ≡ yes b.spot (p || b.past) (e || b.exits) → Tells words (beside (flags p e) o) r
+unfolding beside
+tells-beside o p e {b} x a = let y = told-some o b x in tells_as (ap (beside (flags p e)) y.is) (tells-some a y.stand)
 
 -- Cycles and choices
 
@@ -89,46 +87,46 @@ arms-as : (hs : List Head) (ps : List Pair) (v : Bool) (k l l₁ : ℕ) (c c₁ 
 arms-as hs ps v k l l₁ c c₁ t cells names e d = rw (e, d)
 
 module _ {common heads words : List ℕ} {g : Ground} {d : Depth} where
-  pub cycle-none : {s : Spot} {r : Outcome} → d.left ≡ 0 → r.ok ≡ false → r.spot ≡ s → SortDone common heads words g d s turns r
+  pub cycle-none : {s : Spot} {r : code.Option Outcome} → d.left ≡ 0 → r ≡ code.None → SortDone common heads words g d s turns r
   unfolding an_act
-  cycle-none e a b = record {
-    within = within_same words b;
+  cycle-none e a = record {
+    within = rw a tt;
     does = λ hs ps kn k l. record { tells = λ cells names x. tells_as (deeper-zero d.left _ e) (tells_none a) };
   }
 
-  pub cycle-some : {s : Spot} {d₁ : Depth} {b r : Outcome} → (d.left ≡ 0 → ⊥) → d.left - 1 ≡ d₁.left → d₁.inside ≡ true → ActsDone common heads words g d₁ s b
-      → r.ok ≡ b.ok → r.spot ≡ b.spot → r.past ≡ b.exits → r.exits ≡ false → SortDone common heads words g d s turns r
-  unfolding an_act
-  cycle-some {s} {d₁} {b} {r} n e i y o p q z = record {
-    within = within-then y.within (within_same words p);
-    does = λ hs ps kn k l. record { tells = λ cells names x. tells_as (deeper-on d.left _ n) (tells-around _ (tells_as (acts-as hs ps g.valued k (d.left - 1) d₁.left true d₁.inside cells names e (sym i)) ((y.does hs ps kn k l).tells cells names x)) o p q z) };
+  module _ {s : Spot} {d₁ : Depth} (n : d.left ≡ 0 → ⊥) (e : d.left - 1 ≡ d₁.left) (i : d₁.inside ≡ true) where
+    pub cycle-off : {r : code.Option Outcome} → ActsDone common heads words g d₁ s code.None → r ≡ code.None → SortDone common heads words g d s turns r
+    unfolding an_act around
+    cycle-off y a = record {
+      within = rw a tt;
+      does = λ hs ps kn k l. record {
+        tells = λ cells names x. tells_as (deeper-on d.left _ n ∙ ap around (acts-as hs ps g.valued k (d.left - 1) d₁.left true d₁.inside cells names e (sym i) ∙ told-none _ ((y.does hs ps kn k l).tells cells names x))) (tells_none a);
+      };
+    }
+
+    pub cycle-some : {b : Outcome} {r : code.Option Outcome} → ActsDone common heads words g d₁ s (code.Some b) → r ≡ yes b.spot b.exits false → SortDone common heads words g d s turns r
+    unfolding an_act
+    cycle-some y a = record {
+      within = rw a y.within;
+      does = λ hs ps kn k l. record {
+        tells = λ cells names x. tells_as (deeper-on d.left _ n) (tells-around _ (tells_as (acts-as hs ps g.valued k (d.left - 1) d₁.left true d₁.inside cells names e (sym i)) ((y.does hs ps kn k l).tells cells names x)) a);
+      };
+    }
+
+  pub choice-deep : {s : Spot} {r : code.Option Outcome} {t : Bool} → d.left ≡ 0 → r ≡ code.None → ChoiceDone common heads words g d s t r
+  choice-deep e a = record { within = rw a tt; does = λ hs ps kn k l. record { tells = λ cells names x. tells_as (deeper-zero d.left _ e) (tells_none a) } }
+
+  pub choice-some : {s : Spot} {r : code.Option Outcome} {d₁ : Depth} {t : Bool} → (d.left ≡ 0 → ⊥) → d.left - 1 ≡ d₁.left → d.inside ≡ d₁.inside → ArmsDone common heads words g d₁ s t r → ChoiceDone common heads words g d s t r
+  choice-some {d₁ = d₁} {t} n e i y = record {
+    within = y.within;
+    does = λ hs ps kn k l. record { tells = λ cells names x. tells_as (deeper-on d.left _ n ∙ arms-as hs ps g.valued k (d.left - 1) d₁.left d.inside d₁.inside t cells names e i) ((y.does hs ps kn k l).tells cells names x) };
   }
-
-  pub choice-off : {chosen r : Outcome} {t : Bool} → chosen.ok ≡ false → r.ok ≡ false → r.spot ≡ chosen.spot → ChoiceDone common heads words g d chosen t r
-  unfolding Is selecting
-  choice-off {chosen} {r} {t} e a b = record { within = within_same words b; does = λ hs ps kn k l o x. go hs ps k o x }
-    where
-      go : (hs : List Head) (ps : List Pair) (k : ℕ) (o : Option Went) → Tells words o chosen → Tells words (deeper d.left (selecting o (λ cells names. arms hs ps g.valued k (d.left - 1) d.inside t false 64 cells names))) r
-      go hs ps k none x = tells_as (deeper-none d.left) (tells_none a)
-      go hs ps k (some w) x = bools.never (sym e ∙ x.is.0)
-
-  pub choice-deep : {chosen r : Outcome} {t : Bool} → d.left ≡ 0 → r.ok ≡ false → r.spot ≡ chosen.spot → ChoiceDone common heads words g d chosen t r
-  choice-deep e a b = record { within = within_same words b; does = λ hs ps kn k l o x. tells_as (deeper-zero d.left _ e) (tells_none a) }
-
-  pub choice-some : {chosen r : Outcome} {d₁ : Depth} {t : Bool} → chosen.ok ≡ true → (d.left ≡ 0 → ⊥) → d.left - 1 ≡ d₁.left → d.inside ≡ d₁.inside → ArmsDone common heads words g d₁ chosen.spot t r → ChoiceDone common heads words g d chosen t r
-  unfolding Is selecting
-  choice-some {chosen} {r} {d₁} {t} o n e i y = record { within = y.within; does = λ hs ps kn k l w x. go hs ps kn k l w x }
-    where
-      go : (hs : List Head) (ps : List Pair) → Knows common heads words g hs ps → (k : ℕ) → chosen.spot.end ≤ chosen.spot.cell + k → (w : Option Went) → Tells words w chosen
-          → Tells words (deeper d.left (selecting w (λ cells names. arms hs ps g.valued k (d.left - 1) d.inside t false 64 cells names))) r
-      go hs ps kn k l none x = bools.never (sym x.is ∙ o)
-      go hs ps kn k l (some w) x = tells_as (deeper-on d.left _ n ∙ arms-as hs ps g.valued k (d.left - 1) d₁.left d.inside d₁.inside t w.cells w.names e i) ((y.does hs ps kn k l).tells w.cells w.names x.is.1)
 
 -- Actions by their first cells
 
 act-token-is : (hs : List Head) (ps : List Pair) (v : Bool) (inner : Actions hs ps v) (choices : Choices hs ps v) (left : ℕ) (c : Bool) (x : ℕ) (cells : List ℕ) (names : List Name) → x ≡ 7
-    → an_act hs ps v inner choices left c (sort_of x) cells names ≡ deeper left (selecting (some (went cells names true false)) (λ cells names. choices (left - 1) c true false 64 cells names))
-unfolding an_act sort_of selecting
+    → an_act hs ps v inner choices left c (sort_of x) cells names ≡ deeper left (choices (left - 1) c true false 64 cells names)
+unfolding an_act sort_of
 act-token-is hs ps v inner choices left c x cells names e = rw e
 
 act-ruled-is : (hs : List Head) (ps : List Pair) (v : Bool) (inner : Actions hs ps v) (choices : Choices hs ps v) (left : ℕ) (c : Bool) (x : ℕ) (cells : List ℕ) (names : List Name) → x ≡ 11
@@ -146,32 +144,62 @@ act-ruled-is hs ps v inner choices left c x (m ∷ cells) (n ∷ names) e = rw e
 later : {words : List ℕ} {s t : Spot} (k : ℕ) → Within words s t → s.end ≤ s.cell + k → t.end ≤ t.cell + k
 later k y l = let a = y.low in let b = y.same in omega (arith, a, b, l)
 
+-- a choice behind its selector
+abbrev behind : List Head → List Pair → Bool → Depth → ℕ → Option Went → Option Went
+behind hs ps v d k o = deeper d.left (selecting o (λ cells names. arms hs ps v k (d.left - 1) d.inside false false 64 cells names))
+
 module _ {common heads words : List ℕ} {g : Ground} {d : Depth} {s : Spot} {x : ℕ} where
-  pub act-cycle : {r : Outcome} → x ≡ 2 → SortDone common heads words g d s turns r → SortDone common heads words g d s (sort_of x) r
+  pub act-cycle : {r : code.Option Outcome} → x ≡ 2 → SortDone common heads words g d s turns r → SortDone common heads words g d s (sort_of x) r
   unfolding sort_of
   act-cycle e y = rw e y
 
-  pub act-token : {p r : Outcome} → x ≡ 7 → p.ok ≡ true → p.spot ≡ s → p.past ≡ true → p.exits ≡ false → ChoiceDone common heads words g d p true r → SortDone common heads words g d s (sort_of x) r
-  act-token {p} {r} e a b f h y =
-      let u = within_same words b in
-      record {
-        within = within-then u y.within;
-        does = λ hs ps kn k l. record { tells = λ cells names z. tells_as (act-token-is hs ps g.valued _ _ d.left d.inside x cells names e) (y.does hs ps kn k (later k u l) _ (tells-some a b f h z)) };
-      }
+  pub act-token : {r : code.Option Outcome} → x ≡ 7 → ChoiceDone common heads words g d s true r → SortDone common heads words g d s (sort_of x) r
+  act-token e y = record {
+    within = y.within;
+    does = λ hs ps kn k l. record { tells = λ cells names z. tells_as (act-token-is hs ps g.valued _ _ d.left d.inside x cells names e) ((y.does hs ps kn k l).tells cells names z) };
+  }
 
-  pub act-ruled : {b : Bool} {p r : Outcome} → x ≡ 11 → RuleOk common heads words s b → NameDone words s b p → ChoiceDone common heads words g d p false r → SortDone common heads words g d s (sort_of x) r
-  act-ruled {b} {p} {r} e q n y =
-      record {
-        within = within-then n.within y.within;
-        does = λ hs ps kn k l. record { tells = λ cells names z. tells_as (act-ruled-is hs ps g.valued _ _ d.left d.inside x cells names e) (y.does hs ps kn k (later k n.within l) _ ((n.does (rule_ok hs ps) (q.tells hs ps kn.listed)).tells cells names z)) };
-      }
+  module _ (e : x ≡ 11) {b : Bool} (q : RuleOk common heads words s b) where
+    pub act-ruled-off : {r : code.Option Outcome} → NameDone words s b code.None → r ≡ code.None → SortDone common heads words g d s (sort_of x) r
+    unfolding selecting
+    act-ruled-off n a = record {
+      within = rw a tt;
+      does = λ hs ps kn k l. record {
+        tells = λ cells names z. tells_as (act-ruled-is hs ps g.valued _ _ d.left d.inside x cells names e ∙ ap (behind hs ps g.valued d k) (told-none _ ((n.does (rule_ok hs ps) (q.tells hs ps kn.listed)).tells cells names z)) ∙ deeper-none d.left) (tells_none a);
+      };
+    }
 
-  pub act-asked : {p r : Outcome} → 768 ≤ x → AskedDone words s x p → ChoiceDone common heads words g d p false r → SortDone common heads words g d s (sort_of x) r
-  act-asked {p} {r} e n y =
-      record {
-        within = within-then n.within y.within;
-        does = λ hs ps kn k l. record { tells = λ cells names z. tells_as (act-asked-is hs ps g.valued _ _ d.left d.inside x cells names e) (y.does hs ps kn k (later k n.within l) _ (n.does.tells cells names z)) };
-      }
+    pub act-ruled : {p : Outcome} {r : code.Option Outcome} → NameDone words s b (code.Some p) → ChoiceDone common heads words g d p.spot false r → SortDone common heads words g d s (sort_of x) r
+    unfolding selecting
+    act-ruled {p} {r} n y = record {
+      within = reaches-then r n.within y.within;
+      does = λ hs ps kn k l. record {
+        tells = λ cells names z.
+            let u = told-some _ p ((n.does (rule_ok hs ps) (q.tells hs ps kn.listed)).tells cells names z) in
+            tells_as (act-ruled-is hs ps g.valued _ _ d.left d.inside x cells names e ∙ ap (behind hs ps g.valued d k) u.is) ((y.does hs ps kn k (later k n.within l)).tells u.cells u.names u.stand);
+      };
+    }
+
+  module _ (e : 768 ≤ x) where
+    pub act-asked-off : {r : code.Option Outcome} → AskedDone words s x code.None → r ≡ code.None → SortDone common heads words g d s (sort_of x) r
+    unfolding selecting
+    act-asked-off n a = record {
+      within = rw a tt;
+      does = λ hs ps kn k l. record {
+        tells = λ cells names z. tells_as (act-asked-is hs ps g.valued _ _ d.left d.inside x cells names e ∙ ap (behind hs ps g.valued d k) (told-none _ (n.does.tells cells names z)) ∙ deeper-none d.left) (tells_none a);
+      };
+    }
+
+    pub act-asked : {p : Outcome} {r : code.Option Outcome} → AskedDone words s x (code.Some p) → ChoiceDone common heads words g d p.spot false r → SortDone common heads words g d s (sort_of x) r
+    unfolding selecting
+    act-asked {p} {r} n y = record {
+      within = reaches-then r n.within y.within;
+      does = λ hs ps kn k l. record {
+        tells = λ cells names z.
+            let u = told-some _ p (n.does.tells cells names z) in
+            tells_as (act-asked-is hs ps g.valued _ _ d.left d.inside x cells names e ∙ ap (behind hs ps g.valued d k) u.is) ((y.does hs ps kn k (later k n.within l)).tells u.cells u.names u.stand);
+      };
+    }
 
 -- Actions
 
@@ -233,81 +261,85 @@ module _ {common heads words : List ℕ} {g : Ground} {d : Depth} {s : Spot} whe
   }
 
   module _ {here : Spot} {past exits : Bool} (y : ActsLeft common heads words g d s here past exits) where
-    pub acts-over : {r : Outcome} → here.end ≤ here.cell → r.ok ≡ false → r.spot ≡ here → ActsDone common heads words g d s r
+    -- what is left decides as all
+    abbrev put-behind : Option Went → Option Went
+    put-behind o = joined (flags past exits) o
+
+    pub acts-over : {r : code.Option Outcome} → here.end ≤ here.cell → r ≡ code.None → ActsDone common heads words g d s r
     unfolding joined
-    acts-over {r} l a b = record {
-      within = within-then y.within (within_same words b);
+    acts-over l a = record {
+      within = rw a tt;
       does = λ hs ps kn k m. record {
         tells = λ cells names x.
             let z = y.left hs ps kn k m cells names x in
             let n = z.stand.cells_count in
-            tells_as (z.is ∙ ap (λ (o : Option Went). joined (flags past exits) o) (acts-none-is hs ps g.valued z.fuel d.left d.inside z.cells z.names (omega (arith, n, l)))) (tells_none a);
+            tells_as (z.is ∙ ap put-behind (acts-none-is hs ps g.valued z.fuel d.left d.inside z.cells z.names (omega (arith, n, l)))) (tells_none a);
       };
     }
 
-    pub acts-end : (x : ℕ) {r : Outcome} → here.cell < here.end → x ≡ get_or words here.cell 0 → x ≡ 0 → r.ok ≡ true → r.spot ≡ along 1 here → r.past ≡ past → r.exits ≡ exits → ActsDone common heads words g d s r
+    pub acts-end : (x : ℕ) {next : Spot} {r : code.Option Outcome} → here.cell < here.end → x ≡ get_or words here.cell 0 → x ≡ 0 → next ≡ along 1 here → r ≡ yes next past exits → ActsDone common heads words g d s r
     unfolding joined
-    acts-end x {r} l e o a b f h = record {
-      within = within-then y.within (within-along words 1 (omega (arith, l)) b);
+    acts-end x {next} l e o f a = record {
+      within = rw a (within-then y.within (within-along words 1 (omega (arith, l)) f));
       does = λ hs ps kn k m. record {
         tells = λ cells names u.
             let z = opening x l e (y.left hs ps kn k m cells names u) in
-            tells_as (z.is ∙ ap (λ (o : Option Went). joined (flags past exits) o) (acts-end-is hs ps g.valued z.fuel d.left d.inside x z.cells z.names o)) (tells-some a b (f ∙ sym (and-true past)) (h ∙ sym (or-false exits)) z.stand);
+            tells_as (z.is ∙ ap put-behind (acts-end-is hs ps g.valued z.fuel d.left d.inside x z.cells z.names o))
+            (tells-some (a ∙ ap (λ p. yes next p exits) (sym (and-true past)) ∙ ap (λ q. yes next (past && true) q) (sym (or-false exits))) (stand-at f z.stand));
       };
     }
 
-    module _ (x : ℕ) {next : Spot} {a : Outcome} (l : here.cell < here.end) (e : x ≡ get_or words here.cell 0) (o : x ≡ 0 → ⊥) (f : next ≡ along 1 here) (u : SortDone common heads words g d next (sort_of x) a) where
+    module _ (x : ℕ) {next : Spot} {r : code.Option Outcome} (l : here.cell < here.end) (e : x ≡ get_or words here.cell 0) (o : x ≡ 0 → ⊥) (f : next ≡ along 1 here) (u : SortDone common heads words g d next (sort_of x) r) where
       abbrev the-act : List Head → List Pair → ℕ → List ℕ → List Name → Option Went
       the-act hs ps k cells names = an_act hs ps g.valued (λ l d s n. acts hs ps g.valued k l d s n) (λ l d b t r s n. arms hs ps g.valued k l d b t r s n) d.left d.inside (sort_of x) cells names
 
-      in-act : Within words s a.spot
-      in-act = within-then y.within (within-then (within-along words 1 (omega (arith, l)) f) u.within)
+      abbrev onward : List Head → List Pair → ℕ → Option Went → Option Went
+      onward hs ps k w = put-behind (in_row w (λ cells names. acts hs ps g.valued k d.left d.inside cells names))
 
-      act-told : (hs : List Head) (ps : List Pair) → Knows common heads words g hs ps → {all : Option Went} (z : Opening words all hs ps g.valued d.left d.inside here past exits x) → Tells words (the-act hs ps z.fuel z.cells z.names) a
+      act-told : (hs : List Head) (ps : List Pair) → Knows common heads words g hs ps → {all : Option Went} (z : Opening words all hs ps g.valued d.left d.inside here past exits x) → Tells words (the-act hs ps z.fuel z.cells z.names) r
       act-told hs ps kn z =
           let c : next.cell ≡ here.cell + 1 = ap (λ (t : Spot). t.cell) f in
           let n : next.end ≡ here.end = ap (λ (t : Spot). t.end) f in
           let m = z.enough in
           (u.does hs ps kn z.fuel (omega (arith, c, n, m))).tells z.cells z.names (stand-at f z.stand)
 
-      pub acts-fail : a.ok ≡ false → ActsDone common heads words g d s a
-      unfolding joined in_row Is
-      acts-fail b = record {
-        within = in-act;
+      act-is : (hs : List Head) (ps : List Pair) {all : Option Went} (z : Opening words all hs ps g.valued d.left d.inside here past exits x) → all ≡ onward hs ps z.fuel (the-act hs ps z.fuel z.cells z.names)
+      act-is hs ps z = z.is ∙ ap put-behind (acts-more-is hs ps g.valued z.fuel d.left d.inside x z.cells z.names o)
+
+      pub acts-fail : {q : code.Option Outcome} → r ≡ code.None → q ≡ code.None → ActsDone common heads words g d s q
+      unfolding joined in_row
+      acts-fail b a = record {
+        within = rw a tt;
         does = λ hs ps kn k m. record {
           tells = λ cells names v.
               let z = opening x l e (y.left hs ps kn k m cells names v) in
-              tells_as (z.is ∙ ap (λ (o : Option Went). joined (flags past exits) o) (acts-more-is hs ps g.valued z.fuel d.left d.inside x z.cells z.names o))
-              (go hs ps z.fuel (the-act hs ps z.fuel z.cells z.names) (act-told hs ps kn z));
+              tells_as (act-is hs ps z ∙ ap (onward hs ps z.fuel) (told-none (the-act hs ps z.fuel z.cells z.names) (rw b at (act-told hs ps kn z)))) (tells_none a);
         };
       }
-        where
-          go : (hs : List Head) (ps : List Pair) (k : ℕ) (w : Option Went) → Tells words w a → Tells words (joined (flags past exits) (in_row w (λ cells names. acts hs ps g.valued k d.left d.inside cells names))) a
-          go hs ps k none t = tells_none b
-          go hs ps k (some w) t = bools.never (sym b ∙ t.is.0)
 
-      pub acts-more : {past₁ exits₁ : Bool} → a.ok ≡ true → past₁ ≡ (past && a.past) → exits₁ ≡ (exits || a.exits) → ActsLeft common heads words g d s a.spot past₁ exits₁
-      unfolding in_row Is
-      acts-more {past₁} {exits₁} b p₁ e₁ = record {
-        within = in-act;
-        left = λ hs ps kn k m cells names v.
-            let z = opening x l e (y.left hs ps kn k m cells names v) in
-            go hs ps z.fuel (the-act hs ps z.fuel z.cells z.names) (act-told hs ps kn z)
-            (let w = within-then (within-along words 1 (omega (arith, l)) f) u.within in let low = u.within.low in let same = w.same in let c : next.cell ≡ here.cell + 1 = ap (λ (t : Spot). t.cell) f in let q = z.enough in omega (arith, low, same, c, q))
-            (z.is ∙ ap (λ (o : Option Went). joined (flags past exits) o) (acts-more-is hs ps g.valued z.fuel d.left d.inside x z.cells z.names o));
-      }
-        where
-          go : {all : Option Went} (hs : List Head) (ps : List Pair) (k : ℕ) (w : Option Went) → Tells words w a → a.spot.end ≤ a.spot.cell + k
-              → all ≡ joined (flags past exits) (in_row w (λ cells names. acts hs ps g.valued k d.left d.inside cells names)) → Acting words all hs ps g.valued d.left d.inside a.spot past₁ exits₁
-          go hs ps k none t q i = bools.never (sym t.is ∙ b)
-          go hs ps k (some w) t q i = record {
-            fuel = k;
-            enough = q;
-            cells = w.cells;
-            names = w.names;
-            stand = t.is.1;
-            is = i ∙ joined-again past exits w (acts hs ps g.valued k d.left d.inside w.cells w.names)
-                ∙ ap (λ (f : Went). joined f (acts hs ps g.valued k d.left d.inside w.cells w.names)) (rw (p₁, e₁, t.is.2, t.is.3));
+      pub acts-more : {a : Outcome} {past₁ exits₁ : Bool} → r ≡ code.Some a → past₁ ≡ (past && a.past) → exits₁ ≡ (exits || a.exits) → ActsLeft common heads words g d s a.spot past₁ exits₁
+      unfolding in_row
+      acts-more {a} {past₁} {exits₁} b p₁ e₁ =
+          let w : Within words next a.spot = rw b at u.within in
+          record {
+            within = within-then y.within (within-then (within-along words 1 (omega (arith, l)) f) w);
+            left = λ hs ps kn k m cells names v.
+                let z = opening x l e (y.left hs ps kn k m cells names v) in
+                let t = told-some (the-act hs ps z.fuel z.cells z.names) a (rw b at (act-told hs ps kn z)) in
+                let low = w.low in
+                let same = w.same in
+                let c : next.cell ≡ here.cell + 1 = ap (λ (t : Spot). t.cell) f in
+                let n : next.end ≡ here.end = ap (λ (t : Spot). t.end) f in
+                let q = z.enough in
+                record {
+                  fuel = z.fuel;
+                  enough = omega (arith, low, same, c, n, q);
+                  cells = t.cells;
+                  names = t.names;
+                  stand = t.stand;
+                  is = act-is hs ps z ∙ ap (onward hs ps z.fuel) t.is ∙ joined-again past exits (went t.cells t.names a.past a.exits) (acts hs ps g.valued z.fuel d.left d.inside t.cells t.names)
+                      ∙ ap (λ (f : Went). joined f (acts hs ps g.valued z.fuel d.left d.inside t.cells t.names)) (rw (p₁, e₁));
+                };
           }
 
 -- Alternatives
@@ -347,30 +379,13 @@ arms-labels-is hs ps v k left c t h room x n cells names l e = rw (arm-large x l
 -- one alternative
 
 module _ {common heads words : List ℕ} {g : Ground} {d : Depth} where
-  pub arm-off : {chosen r : Outcome} → chosen.ok ≡ false → r.ok ≡ false → r.spot ≡ chosen.spot → ArmDone common heads words g d chosen r
-  unfolding Is selecting
-  arm-off {chosen} {r} e a b = record { within = within_same words b; good = λ t. bools.never (sym a ∙ t); does = λ hs ps kn k l o x. go hs ps k o x }
-    where
-      go : (hs : List Head) (ps : List Pair) (k : ℕ) (o : Option Went) → Tells words o chosen → Tells words (selecting o (λ cells names. acts hs ps g.valued k d.left d.inside cells names)) r
-      go hs ps k none x = tells_none a
-      go hs ps k (some w) x = bools.never (sym e ∙ x.is.0)
-
-  pub arm-on : {chosen r : Outcome} → chosen.ok ≡ true → ActsDone common heads words g d chosen.spot r → ArmDone common heads words g d chosen r
-  unfolding Is selecting
-  arm-on {chosen} {r} e y = record { within = y.within; good = λ t. e; does = λ hs ps kn k l o x. go hs ps kn k l o x }
-    where
-      go : (hs : List Head) (ps : List Pair) → Knows common heads words g hs ps → (k : ℕ) → chosen.spot.end ≤ chosen.spot.cell + k → (o : Option Went) → Tells words o chosen
-          → Tells words (selecting o (λ cells names. acts hs ps g.valued k d.left d.inside cells names)) r
-      go hs ps kn k l none x = bools.never (sym x.is ∙ e)
-      go hs ps kn k l (some w) x = (y.does hs ps kn k l).tells w.cells w.names x.is.1
-
-  pub last-other : {s : Spot} {l : Last} {r : Outcome} → l.x ≡ 13 → ActsDone common heads words g d s r → LastDone common heads words g d s l r
+  pub last-other : {s : Spot} {l : Last} {r : code.Option Outcome} → l.x ≡ 13 → ActsDone common heads words g d s r → LastDone common heads words g d s l r
   last-other {s} {l} {r} e y = record {
     within = y.within;
     does = λ hs ps kn k m room. record { tells = λ cells names z. tells_as (arm-other-is hs ps g.valued _ _ d.left d.inside l.token l.labelled room l.x cells names e) ((y.does hs ps kn k m).tells cells names z) };
   }
 
-  pub last-bare : {s : Spot} {l : Last} {r : Outcome} → BareDone words s l.x l.token l.labelled r → LastDone common heads words g d s l r
+  pub last-bare : {s : Spot} {l : Last} {r : code.Option Outcome} → BareDone words s l.x l.token l.labelled r → LastDone common heads words g d s l r
   last-bare y = record {
     within = y.within;
     does = λ hs ps kn k m room. y.does hs ps g.valued (λ l d s n. acts hs ps g.valued k l d s n) (λ l d b t r s n. arms hs ps g.valued k l d b t r s n) d.left d.inside room;
@@ -422,10 +437,10 @@ module _ {common heads words : List ℕ} {g : Ground} {d : Depth} {t : Bool} {s 
     abbrev with-flags : Option Went → Option Went
     with-flags o = beside (flags past exits) o
 
-    pub arms-over : {r : Outcome} → here.end ≤ here.cell → r.ok ≡ false → r.spot ≡ here → ArmsDone common heads words g d s t r
+    pub arms-over : {r : code.Option Outcome} → here.end ≤ here.cell → r ≡ code.None → ArmsDone common heads words g d s t r
     unfolding beside
-    arms-over {r} l a b = record {
-      within = within-then y.within (within_same words b);
+    arms-over l a = record {
+      within = rw a tt;
       does = λ hs ps kn k m. record {
         tells = λ cells names x.
             let z = y.left hs ps kn k m cells names x in
@@ -444,78 +459,107 @@ module _ {common heads words : List ℕ} {g : Ground} {d : Depth} {t : Bool} {s 
       in-next : Within words s next
       in-next = within-then y.within (within-along words 1 (omega (arith, l)) f)
 
-      pub arms_last : {last : Last} {o r : Outcome} → last.x ≡ x → last.token ≡ t → last.labelled ≡ labelled → LastDone common heads words g d next last o
-          → r.ok ≡ o.ok → r.spot ≡ o.spot → r.past ≡ (past || o.past) → r.exits ≡ (exits || o.exits) → ArmsDone common heads words g d s t r
-      arms_last {last} {o} {r} q₁ q₂ q₃ u a b h i = record {
-        within = within-then in-next (within-then u.within (within_same words b));
-        does = λ hs ps kn k m. record {
-          tells = λ cells names v.
-              let z = facing x l e (y.left hs ps kn k m cells names v) in
-              let n = z.enough in
-              let c = next-cell in
-              let j = next-end in
-              tells_as (z.is ∙ ap with-flags (arms-arm-is hs ps g.valued z.fuel d.left d.inside t labelled room x z.cells z.names ∙ rw (q₁, q₂, q₃) refl))
-              (tells-beside _ past exits ((u.does hs ps kn z.fuel (omega (arith, n, c, j)) room).tells z.cells z.names (stand-at f z.stand)) a b h i);
-        };
-      }
+      -- the last
+      module _ {last : Last} (q₁ : last.x ≡ x) (q₂ : last.token ≡ t) (q₃ : last.labelled ≡ labelled) {o : code.Option Outcome} (u : LastDone common heads words g d next last o) where
+        abbrev the-last : List Head → List Pair → ℕ → List ℕ → List Name → Option Went
+        the-last hs ps k cells names = an_arm hs ps g.valued (λ l d s n. acts hs ps g.valued k l d s n) (λ l d b t r s n. arms hs ps g.valued k l d b t r s n) d.left d.inside last.token last.labelled room (arm_of last.x) cells names
 
-      module _ {n : ℕ} (big : 64 < x) (many : n ≡ x - 64) {o a : Outcome} (u : LabelsDone words next n room o) (w : ArmDone common heads words g d o a) where
-        in_body : Within words s a.spot
-        in_body = within-then in-next (within-then u.within w.within)
-
-        abbrev the-arm : List Head → List Pair → ℕ → List ℕ → List Name → Option Went
-        the-arm hs ps k cells names = selecting (some_labels n room cells names) (λ cells names. acts hs ps g.valued k d.left d.inside cells names)
-
-        abbrev later-arms : List Head → List Pair → ℕ → List ℕ → List Name → Option Went
-        later-arms hs ps k cells names = arms hs ps g.valued k d.left d.inside t true (room - n) cells names
-
-        arm-told : (hs : List Head) (ps : List Pair) → Knows common heads words g hs ps → {all : Option Went} (z : Facing words all hs ps g.valued d.left d.inside t here room labelled past exits x)
-            → Tells words (the-arm hs ps z.fuel z.cells z.names) a
-        arm-told hs ps kn z =
-            let m = z.enough in
+        last-told : (hs : List Head) (ps : List Pair) → Knows common heads words g hs ps → {all : Option Went} (z : Facing words all hs ps g.valued d.left d.inside t here room labelled past exits x) → Tells words (the-last hs ps z.fuel z.cells z.names) o
+        last-told hs ps kn z =
+            let n = z.enough in
             let c = next-cell in
             let j = next-end in
-            w.does hs ps kn z.fuel (later z.fuel u.within (omega (arith, m, c, j))) _ (u.does.tells z.cells z.names (stand-at f z.stand))
+            (u.does hs ps kn z.fuel (omega (arith, n, c, j)) room).tells z.cells z.names (stand-at f z.stand)
 
-        arm-is-it : (hs : List Head) (ps : List Pair) {all : Option Went} (z : Facing words all hs ps g.valued d.left d.inside t here room labelled past exits x)
-            → all ≡ with-flags (either_of (the-arm hs ps z.fuel z.cells z.names) (λ cells names. later-arms hs ps z.fuel cells names))
-        arm-is-it hs ps z = z.is ∙ ap with-flags (arms-labels-is hs ps g.valued z.fuel d.left d.inside t labelled room x n z.cells z.names big many)
+        last-is : (hs : List Head) (ps : List Pair) {all : Option Went} (z : Facing words all hs ps g.valued d.left d.inside t here room labelled past exits x) → all ≡ with-flags (the-last hs ps z.fuel z.cells z.names)
+        last-is hs ps z = z.is ∙ ap with-flags (arms-arm-is hs ps g.valued z.fuel d.left d.inside t labelled room x z.cells z.names ∙ rw (q₁, q₂, q₃) refl)
 
-        pub arms-fail : a.ok ≡ false → ArmsDone common heads words g d s t a
-        unfolding beside either_of Is
-        arms-fail b = record {
-          within = in_body;
+        pub arms-last-off : {r : code.Option Outcome} → o ≡ code.None → r ≡ code.None → ArmsDone common heads words g d s t r
+        unfolding beside
+        arms-last-off b a = record {
+          within = rw a tt;
           does = λ hs ps kn k m. record {
             tells = λ cells names v.
                 let z = facing x l e (y.left hs ps kn k m cells names v) in
-                tells_as (arm-is-it hs ps z) (go hs ps z.fuel (the-arm hs ps z.fuel z.cells z.names) (arm-told hs ps kn z));
+                tells_as (last-is hs ps z ∙ ap with-flags (told-none (the-last hs ps z.fuel z.cells z.names) (rw b at (last-told hs ps kn z)))) (tells_none a);
           };
         }
-          where
-            go : (hs : List Head) (ps : List Pair) (k : ℕ) (v : Option Went) → Tells words v a → Tells words (with-flags (either_of v (λ cells names. later-arms hs ps k cells names))) a
-            go hs ps k none h = tells_none b
-            go hs ps k (some v) h = bools.never (sym b ∙ h.is.0)
 
-        pub arms_more : {room₁ : ℕ} {past₁ exits₁ : Bool} → a.ok ≡ true → room₁ ≡ room - n → past₁ ≡ (past || a.past) → exits₁ ≡ (exits || a.exits) → ArmsLeft common heads words g d t s a.spot room₁ true past₁ exits₁
-        unfolding either_of Is
-        arms_more {room₁} {past₁} {exits₁} b r₁ p₁ e₁ = record {
-          within = in_body;
-          left = λ hs ps kn k m cells names v.
-              let z = facing x l e (y.left hs ps kn k m cells names v) in
-              let h = z.enough in
+        pub arms_last : {b : Outcome} {r : code.Option Outcome} → o ≡ code.Some b → r ≡ yes b.spot (past || b.past) (exits || b.exits) → ArmsDone common heads words g d s t r
+        arms_last b a = record {
+          within = rw a (within-then in-next (rw b at u.within));
+          does = λ hs ps kn k m. record {
+            tells = λ cells names v.
+                let z = facing x l e (y.left hs ps kn k m cells names v) in
+                tells_as (last-is hs ps z) (tells-beside (the-last hs ps z.fuel z.cells z.names) past exits (rw b at (last-told hs ps kn z)) a);
+          };
+        }
+
+      -- one with labels
+      module _ {n : ℕ} (big : 64 < x) (many : n ≡ x - 64) where
+        abbrev past-labels : List Head → List Pair → ℕ → Option Went → Option Went
+        past-labels hs ps k o = with-flags (either_of (selecting o (λ cells names. acts hs ps g.valued k d.left d.inside cells names)) (λ cells names. arms hs ps g.valued k d.left d.inside t true (room - n) cells names))
+
+        arm-is-it : (hs : List Head) (ps : List Pair) {all : Option Went} (z : Facing words all hs ps g.valued d.left d.inside t here room labelled past exits x) → all ≡ past-labels hs ps z.fuel (some_labels n room z.cells z.names)
+        arm-is-it hs ps z = z.is ∙ ap with-flags (arms-labels-is hs ps g.valued z.fuel d.left d.inside t labelled room x n z.cells z.names big many)
+
+        pub arms-unlabelled : {r : code.Option Outcome} → LabelsDone words next n room code.None → r ≡ code.None → ArmsDone common heads words g d s t r
+        unfolding beside either_of selecting
+        arms-unlabelled u a = record {
+          within = rw a tt;
+          does = λ hs ps kn k m. record {
+            tells = λ cells names v.
+                let z = facing x l e (y.left hs ps kn k m cells names v) in
+                tells_as (arm-is-it hs ps z ∙ ap (past-labels hs ps z.fuel) (told-none (some_labels n room z.cells z.names) (u.does.tells z.cells z.names (stand-at f z.stand)))) (tells_none a);
+          };
+        }
+
+        module _ {o : Outcome} (u : LabelsDone words next n room (code.Some o)) {r : code.Option Outcome} (w : ActsDone common heads words g d o.spot r) where
+          abbrev the-arm : List Head → List Pair → ℕ → List ℕ → List Name → Option Went
+          the-arm hs ps k cells names = selecting (some_labels n room cells names) (λ cells names. acts hs ps g.valued k d.left d.inside cells names)
+
+          abbrev later-arms : List Head → List Pair → ℕ → Option Went → Option Went
+          later-arms hs ps k o = with-flags (either_of o (λ cells names. arms hs ps g.valued k d.left d.inside t true (room - n) cells names))
+
+          arm-told : (hs : List Head) (ps : List Pair) → Knows common heads words g hs ps → {all : Option Went} (z : Facing words all hs ps g.valued d.left d.inside t here room labelled past exits x)
+              → Tells words (the-arm hs ps z.fuel z.cells z.names) r
+          unfolding selecting
+          arm-told hs ps kn z =
+              let m = z.enough in
               let c = next-cell in
               let j = next-end in
-              go hs ps z.fuel (the-arm hs ps z.fuel z.cells z.names) (arm-told hs ps kn z) (later z.fuel (within-then u.within w.within) (omega (arith, h, c, j))) (arm-is-it hs ps z);
-        }
-          where
-            go : {all : Option Went} (hs : List Head) (ps : List Pair) (k : ℕ) (v : Option Went) → Tells words v a → a.spot.end ≤ a.spot.cell + k
-                → all ≡ with-flags (either_of v (λ cells names. later-arms hs ps k cells names)) → Arming words all hs ps g.valued d.left d.inside t a.spot room₁ true past₁ exits₁
-            go hs ps k none h q i = bools.never (sym h.is ∙ b)
-            go hs ps k (some v) h q i = record {
-              fuel = k;
-              enough = q;
-              cells = v.cells;
-              names = v.names;
-              stand = h.is.1;
-              is = i ∙ beside-again past exits v (later-arms hs ps k v.cells v.names) ∙ rw (p₁, e₁, r₁, h.is.2, h.is.3) refl;
-            }
+              let v = told-some (some_labels n room z.cells z.names) o (u.does.tells z.cells z.names (stand-at f z.stand)) in
+              tells_as (ap (λ (o : Option Went). selecting o (λ cells names. acts hs ps g.valued z.fuel d.left d.inside cells names)) v.is) ((w.does hs ps kn z.fuel (later z.fuel u.within (omega (arith, m, c, j)))).tells v.cells v.names v.stand)
+
+          pub arms-fail : {q : code.Option Outcome} → r ≡ code.None → q ≡ code.None → ArmsDone common heads words g d s t q
+          unfolding beside either_of
+          arms-fail b a = record {
+            within = rw a tt;
+            does = λ hs ps kn k m. record {
+              tells = λ cells names v.
+                  let z = facing x l e (y.left hs ps kn k m cells names v) in
+                  tells_as (arm-is-it hs ps z ∙ ap (later-arms hs ps z.fuel) (told-none (the-arm hs ps z.fuel z.cells z.names) (rw b at (arm-told hs ps kn z)))) (tells_none a);
+            };
+          }
+
+          pub arms_more : {a : Outcome} {room₁ : ℕ} {past₁ exits₁ : Bool} → r ≡ code.Some a → room₁ ≡ room - n → past₁ ≡ (past || a.past) → exits₁ ≡ (exits || a.exits) → ArmsLeft common heads words g d t s a.spot room₁ true past₁ exits₁
+          unfolding either_of
+          arms_more {a} {room₁} {past₁} {exits₁} b r₁ p₁ e₁ =
+              let i : Within words next a.spot = within-then u.within (rw b at w.within) in
+              record {
+                within = within-then in-next i;
+                left = λ hs ps kn k m cells names v.
+                    let z = facing x l e (y.left hs ps kn k m cells names v) in
+                    let h = z.enough in
+                    let c = next-cell in
+                    let j = next-end in
+                    let q = told-some (the-arm hs ps z.fuel z.cells z.names) a (rw b at (arm-told hs ps kn z)) in
+                    record {
+                      fuel = z.fuel;
+                      enough = later z.fuel i (omega (arith, h, c, j));
+                      cells = q.cells;
+                      names = q.names;
+                      stand = q.stand;
+                      is = arm-is-it hs ps z ∙ ap (later-arms hs ps z.fuel) q.is ∙ beside-again past exits (went q.cells q.names a.past a.exits) (arms hs ps g.valued z.fuel d.left d.inside t true (room - n) q.cells q.names) ∙ rw (p₁, e₁, r₁) refl;
+                    };
+              }

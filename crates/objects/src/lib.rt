@@ -13,7 +13,7 @@ ghost use Rattle.symbols.specs.Rows.{decl_at, held, number_of};
 ghost use Rattle.symbols.specs.Search.{part, named};
 ghost use Rattle.symbols.specs.Search as search;
 ghost use Rattle.syntax.specs.Texts.{Head};
-ghost use Rattle.objects.specs.Cells.{along, Fits, Tells, OperandDone, NameDone, CallOk, RuleOk, SimpleDone, AskedDone, SortDone, ChoiceDone, ActsDone, ArmsDone, ArmDone, LastDone, BareDone, LabelsDone, BodyDone};
+ghost use Rattle.objects.specs.Cells.{along, yes, Fits, Tells, OperandDone, NameDone, CallOk, RuleOk, SimpleDone, AskedDone, SortDone, ChoiceDone, ActsDone, ArmsDone, LastDone, BareDone, LabelsDone, BodyDone};
 ghost use Rattle.objects.specs.Order.{Went, stands_at, is_listed, rule_in_order, sort_of, turns, used_up};
 ghost use Rattle.objects.specs.Places.{Ends, NameAt, HeadsAt, SectionsAt, PartsAt};
 ghost use Rattle.objects.specs.Take.{took, some_words, the_words, times};
@@ -436,10 +436,9 @@ pub struct Spot {
     pub names: usize,
 }
 
-// Whether cells are in order; and if so the place behind them, whether they go past themselves, and whether a `>` in them belongs to the cycle around.
+// What cells in order come to: the place behind them, whether they go past themselves, and whether a `>` in them belongs to the cycle around.
 #[derive(Clone, Copy, Debug, PartialEq, Eq)]
 pub struct Outcome {
-    pub ok: bool,
     pub spot: Spot,
     pub past: bool,
     pub exits: bool,
@@ -460,26 +459,10 @@ pub struct Body {
     pub spot: Spot,
 }
 
-fn refused(spot: Spot) -> Outcome
-    ensures { (result.ok ≡ false) × (result.spot ≡ spot) }
+fn passed(spot: Spot, past: bool, exits: bool) -> Option<Outcome>
+    ensures { result ≡ yes spot past exits }
 {
-    Outcome {
-        ok: false,
-        spot,
-        past: false,
-        exits: false,
-    }
-}
-
-fn passed(spot: Spot, past: bool, exits: bool) -> Outcome
-    ensures { (result.ok ≡ true) × (result.spot ≡ spot) × (result.past ≡ past) × (result.exits ≡ exits) }
-{
-    Outcome {
-        ok: true,
-        spot,
-        past,
-        exits,
-    }
+    Some(Outcome { spot, past, exits })
 }
 
 // n cells further on.
@@ -493,56 +476,28 @@ fn ahead(spot: Spot, n: usize) -> Spot
     }
 }
 
-// An alternative after others.
-fn beside(past: bool, exits: bool, o: Outcome) -> Outcome
-    ensures { (result.ok ≡ o.ok) × (result.spot ≡ o.spot) × (result.past ≡ (past || o.past)) × (result.exits ≡ (exits || o.exits)) }
-{
-    Outcome {
-        past: past | o.past,
-        exits: exits | o.exits,
-        ..o
-    }
-}
-
-// A cycle around its actions.
-fn around(o: Outcome) -> Outcome
-    ensures { (result.ok ≡ o.ok) × (result.spot ≡ o.spot) × (result.past ≡ o.exits) × (result.exits ≡ false) }
-{
-    Outcome {
-        past: o.exits,
-        exits: false,
-        ..o
-    }
-}
-
 // Behind the cell of an operand.
-fn operand(spot: Spot, past: bool) -> Outcome
+fn operand(spot: Spot, past: bool) -> Option<Outcome>
     requires { spot.cell ≤ spot.end }
     ensures { (words : List ℕ) → OperandDone words spot past result }
 {
     if spot.cell == spot.end {
-        return refused(spot);
+        return None;
     }
-    let s = ahead(spot, 1);
-    passed(s, past, false)
+    passed(ahead(spot, 1), past, false)
 }
 
 // Behind a call's mark and its name, where they are there and ok.
-fn after_call(objects: &[u8], spot: Spot, ok: bool) -> Outcome
+fn after_call(objects: &[u8], spot: Spot, ok: bool) -> Option<Outcome>
     requires { (spot.cell ≤ spot.end) × (spot.name ≤ length (words_of objects.now)) }
     ensures { NameDone (words_of objects.now) spot ok result }
 {
-    if spot.cell == spot.end {
-        return refused(spot);
+    if spot.cell == spot.end || spot.names == 0 {
+        return None;
     }
-    if spot.names == 0 {
-        return refused(spot);
-    }
-    let Some(name) = past_name(objects, spot.name) else {
-        return refused(spot);
-    };
+    let name = past_name(objects, spot.name)?;
     if !ok {
-        return refused(spot);
+        return None;
     }
     let s = Spot {
         cell: spot.cell + 1,
@@ -574,7 +529,7 @@ fn rule_ok(objects: &[u8], common: &[u8], heads: &[u16], spot: Spot) -> bool
 }
 
 // An action of one cell, alone or with a value behind it.
-fn simple(spot: Spot, x: usize) -> Outcome
+fn simple(spot: Spot, x: usize) -> Option<Outcome>
     requires cell_le_end { (spot.cell ≤ spot.end) × (x < 768) }
     requires fact { (x ≡ 1 → ⊥) × (x ≡ 2 → ⊥) × (x ≡ 7 → ⊥) × (x ≡ 8 → ⊥) × (x ≡ 9 → ⊥) × (x ≡ 10 → ⊥) × (x ≡ 11 → ⊥) }
     ensures { (words : List ℕ) → SimpleDone words spot x result }
@@ -583,13 +538,13 @@ fn simple(spot: Spot, x: usize) -> Outcome
         return passed(spot, true, false);
     }
     if x < MATCH {
-        return refused(spot);
+        return None;
     }
     if x <= ERROR {
         return operand(spot, true);
     }
     if x < UPDATE {
-        return refused(spot);
+        return None;
     }
     if x < UPDATE_WITH {
         return passed(spot, true, false);
@@ -606,7 +561,7 @@ fn plain(
     depth: Depth,
     spot: Spot,
     x: usize,
-) -> Outcome
+) -> Option<Outcome>
     requires fits { Fits (words_of objects.now) ground spot × (x < 768) }
     requires fact { (x ≡ 2 → ⊥) × (x ≡ 7 → ⊥) × (x ≡ 11 → ⊥) }
     ensures { SortDone common.now heads.now (words_of objects.now) ground depth spot (sort_of x) result }
@@ -615,7 +570,7 @@ fn plain(
         if depth.inside {
             return passed(spot, false, true);
         }
-        return refused(spot);
+        return None;
     }
     if x == CALL {
         let ok = call_ok(objects, common, heads, ground, spot);
@@ -623,7 +578,7 @@ fn plain(
     }
     if x == BACK {
         if ground.valued {
-            return refused(spot);
+            return None;
         }
         return passed(spot, false, false);
     }
@@ -631,13 +586,13 @@ fn plain(
         if ground.valued {
             return operand(spot, false);
         }
-        return refused(spot);
+        return None;
     }
     simple(spot, x)
 }
 
 // The selector of a choice by an operation, behind its first cell x.
-fn asked(spot: Spot, x: usize) -> Outcome
+fn asked(spot: Spot, x: usize) -> Option<Outcome>
     requires { spot.cell ≤ spot.end }
     ensures { (words : List ℕ) → AskedDone words spot x result }
 {
@@ -646,29 +601,29 @@ fn asked(spot: Spot, x: usize) -> Outcome
     } else if x < PAST_OPERATIONS {
         operand(spot, true)
     } else {
-        refused(spot)
+        None
     }
 }
 
 // n labels, where `room` more may stand.
-fn labels(spot: Spot, n: usize, room: usize) -> Outcome
+fn labels(spot: Spot, n: usize, room: usize) -> Option<Outcome>
     requires { spot.cell ≤ spot.end }
     ensures { (words : List ℕ) → LabelsDone words spot n room result }
 {
     if n > room || n > spot.end - spot.cell {
-        return refused(spot);
+        return None;
     }
     passed(ahead(spot, n), true, false)
 }
 
 // What stands for no otherwise, behind its cell x; a choice by token needs a label before it.
-fn bare(spot: Spot, x: usize, token: bool, labelled: bool) -> Outcome
+fn bare(spot: Spot, x: usize, token: bool, labelled: bool) -> Option<Outcome>
     requires { (x ≤ 64) × (x ≡ 13 → ⊥) }
     ensures { (words : List ℕ) → BareDone words spot x token labelled result }
 {
     if x == NO_OTHERWISE {
         if token {
-            return refused(spot);
+            return None;
         }
         return passed(spot, false, false);
     }
@@ -676,23 +631,23 @@ fn bare(spot: Spot, x: usize, token: bool, labelled: bool) -> Outcome
         if token & labelled {
             return passed(spot, false, false);
         }
-        return refused(spot);
+        return None;
     }
-    refused(spot)
+    None
 }
 
 // Whether all cells and all names are used up, and no choice rule goes past its end.
 fn used_up(valued: bool, o: Outcome) -> bool
-    ensures { (words : List ℕ) (w : Option Went) → Tells words w o → result ≡ used_up valued w }
+    ensures { (words : List ℕ) (w : Option Went) → Tells words w (Some o) → result ≡ used_up valued w }
 {
-    if !o.ok || o.spot.cell != o.spot.end || o.spot.names != 0 {
+    if o.spot.cell != o.spot.end || o.spot.names != 0 {
         return false;
     }
     !(valued & o.past)
 }
 
 // Actions up to the cell that ends them.
-#[cycle(act_acts_arm_arms_choice_cycle_last_arm)]
+#[cycle(actions)]
 fn acts(
     objects: &[u8],
     common: &[u8],
@@ -700,7 +655,7 @@ fn acts(
     ground: Ground,
     depth: Depth,
     spot: Spot,
-) -> Outcome
+) -> Option<Outcome>
     requires { Fits (words_of objects.now) ground spot }
     ensures { ActsDone common.now heads.now (words_of objects.now) ground depth spot result }
 {
@@ -714,19 +669,16 @@ fn acts(
         if x == END {
             return passed(next, past, exits);
         }
-        let a = act(objects, common, heads, ground, depth, next, x);
-        if !a.ok {
-            return a;
-        }
+        let a = act(objects, common, heads, ground, depth, next, x)?;
         past &= a.past;
         exits |= a.exits;
         here = a.spot;
     }
-    refused(here)
+    None
 }
 
 // An action, behind its first cell x.
-#[cycle(act_acts_arm_arms_choice_cycle_last_arm)]
+#[cycle(actions)]
 fn act(
     objects: &[u8],
     common: &[u8],
@@ -735,7 +687,7 @@ fn act(
     depth: Depth,
     spot: Spot,
     x: usize,
-) -> Outcome
+) -> Option<Outcome>
     requires { Fits (words_of objects.now) ground spot }
     ensures { SortDone common.now heads.now (words_of objects.now) ground depth spot (sort_of x) result }
 {
@@ -743,23 +695,22 @@ fn act(
         return cycle(objects, common, heads, ground, depth, spot);
     }
     if x == BY_TOKEN {
-        let s = passed(spot, true, false);
-        return choice(objects, common, heads, ground, depth, s, true);
+        return choice(objects, common, heads, ground, depth, spot, true);
     }
     if x == BY_RULE {
         let ok = rule_ok(objects, common, heads, spot);
-        let s = after_call(objects, spot, ok);
-        return choice(objects, common, heads, ground, depth, s, false);
+        let s = after_call(objects, spot, ok)?;
+        return choice(objects, common, heads, ground, depth, s.spot, false);
     }
     if x >= ASK {
-        let s = asked(spot, x);
-        return choice(objects, common, heads, ground, depth, s, false);
+        let s = asked(spot, x)?;
+        return choice(objects, common, heads, ground, depth, s.spot, false);
     }
     plain(objects, common, heads, ground, depth, spot, x)
 }
 
-// A cycle, behind its first cell.
-#[cycle(act_acts_arm_arms_choice_cycle_last_arm)]
+// A cycle, behind its first cell: it goes past if some `>` belongs to it.
+#[cycle(actions)]
 fn cycle(
     objects: &[u8],
     common: &[u8],
@@ -767,41 +718,37 @@ fn cycle(
     ground: Ground,
     depth: Depth,
     spot: Spot,
-) -> Outcome
+) -> Option<Outcome>
     requires { Fits (words_of objects.now) ground spot }
     ensures { SortDone common.now heads.now (words_of objects.now) ground depth spot turns result }
 {
     if depth.left == 0 {
-        return refused(spot);
+        return None;
     }
     let inner = Depth {
         left: depth.left - 1,
         inside: true,
     };
-    let b = acts(objects, common, heads, ground, inner, spot);
-    around(b)
+    let b = acts(objects, common, heads, ground, inner, spot)?;
+    passed(b.spot, b.exits, false)
 }
 
 // A choice, behind its selector.
-#[cycle(act_acts_arm_arms_choice_cycle_last_arm)]
+#[cycle(actions)]
 fn choice(
     objects: &[u8],
     common: &[u8],
     heads: &[u16],
     ground: Ground,
     depth: Depth,
-    chosen: Outcome,
+    spot: Spot,
     token: bool,
-) -> Outcome
-    requires { Fits (words_of objects.now) ground chosen.spot }
-    ensures { ChoiceDone common.now heads.now (words_of objects.now) ground depth chosen token result }
+) -> Option<Outcome>
+    requires { Fits (words_of objects.now) ground spot }
+    ensures { ChoiceDone common.now heads.now (words_of objects.now) ground depth spot token result }
 {
-    let spot = chosen.spot;
-    if !chosen.ok {
-        return refused(spot);
-    }
     if depth.left == 0 {
-        return refused(spot);
+        return None;
     }
     let inner = Depth {
         left: depth.left - 1,
@@ -810,28 +757,8 @@ fn choice(
     arms(objects, common, heads, ground, inner, spot, token)
 }
 
-// The actions of an alternative, behind its labels.
-#[cycle(act_acts_arm_arms_choice_cycle_last_arm)]
-fn arm(
-    objects: &[u8],
-    common: &[u8],
-    heads: &[u16],
-    ground: Ground,
-    depth: Depth,
-    chosen: Outcome,
-) -> Outcome
-    requires { Fits (words_of objects.now) ground chosen.spot }
-    ensures { ArmDone common.now heads.now (words_of objects.now) ground depth chosen result }
-{
-    let spot = chosen.spot;
-    if !chosen.ok {
-        return refused(spot);
-    }
-    acts(objects, common, heads, ground, depth, spot)
-}
-
 // The alternative that ends a choice, behind its first cell.
-#[cycle(act_acts_arm_arms_choice_cycle_last_arm)]
+#[cycle(actions)]
 fn last_arm(
     objects: &[u8],
     common: &[u8],
@@ -840,7 +767,7 @@ fn last_arm(
     depth: Depth,
     spot: Spot,
     last: Last,
-) -> Outcome
+) -> Option<Outcome>
     requires { Fits (words_of objects.now) ground spot × (last.x ≤ 64) }
     ensures { LastDone common.now heads.now (words_of objects.now) ground depth spot last result }
 {
@@ -851,7 +778,7 @@ fn last_arm(
 }
 
 // Alternatives up to the one that ends them.
-#[cycle(act_acts_arm_arms_choice_cycle_last_arm)]
+#[cycle(actions)]
 fn arms(
     objects: &[u8],
     common: &[u8],
@@ -860,7 +787,7 @@ fn arms(
     depth: Depth,
     spot: Spot,
     token: bool,
-) -> Outcome
+) -> Option<Outcome>
     requires { Fits (words_of objects.now) ground spot }
     ensures { ArmsDone common.now heads.now (words_of objects.now) ground depth spot token result }
 {
@@ -875,21 +802,18 @@ fn arms(
         let next = ahead(here, 1);
         if x <= ALTERNATIVE {
             let last = Last { x, token, labelled };
-            let o = last_arm(objects, common, heads, ground, depth, next, last);
-            return beside(past, exits, o);
+            let o = last_arm(objects, common, heads, ground, depth, next, last)?;
+            return passed(o.spot, past | o.past, exits | o.exits);
         }
-        let l = labels(next, x - ALTERNATIVE, room);
-        let a = arm(objects, common, heads, ground, depth, l);
-        if !a.ok {
-            return a;
-        }
+        let l = labels(next, x - ALTERNATIVE, room)?;
+        let a = acts(objects, common, heads, ground, depth, l.spot)?;
         past |= a.past;
         exits |= a.exits;
         room -= x - ALTERNATIVE;
         labelled = true;
         here = a.spot;
     }
-    refused(here)
+    None
 }
 
 // The cells of the rule at q, and the names of its calls.
@@ -949,8 +873,9 @@ fn rule_in_order(
         left: base::NESTED,
         inside: false,
     };
-    let spot = body.spot;
-    let o = acts(objects, common, heads, ground, depth, spot);
+    let Some(o) = acts(objects, common, heads, ground, depth, body.spot) else {
+        return false;
+    };
     used_up(body.valued, o)
 }
 

@@ -3,16 +3,13 @@ use lib.ListN.{length}
 use Rattle.machine.specs.Bytes.{words_of}
 use Rattle.objects.proofs.Walked.{ActsLeft, ArmsLeft}
 use Prim.Native.Nat.{◌+◌, ◌*◌, ◌-◌, ◌≤◌}
-use Rattle.objects.proofs.+act_acts_arm_arms_choice_cycle_last_arm.Given as goal
+use Rattle.objects.proofs.+actions.Given as goal
 
 abbrev pub decreases-act : goal.decreases-act
 decreases-act l = 5 * l.depth.left + 1
 
 abbrev pub decreases-acts : goal.decreases-acts
 decreases-acts l = 5 * l.depth.left + 2
-
-abbrev pub decreases-arm : goal.decreases-arm
-decreases-arm l = 5 * l.depth.left + 3
 
 abbrev pub decreases-arms : goal.decreases-arms
 decreases-arms l = 5 * l.depth.left + 4
