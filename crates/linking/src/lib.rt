@@ -115,21 +115,17 @@ fn first_fault(objects: &[u8], common: &[u8], heads: &[u16], room: usize) -> Opt
             len: 0,
         });
     }
-    let typed = linkchecks::first_typed(objects, common);
-    if typed.there {
-        return Some(fault_of(base::NOT_WANTED, typed));
+    if let Some(found) = linkchecks::first_typed(objects, common) {
+        return Some(fault_of(base::NOT_WANTED, found));
     }
-    let unlike = linkchecks::find_unlike(objects, common, heads);
-    if unlike.there {
-        return Some(fault_of(UNLIKE, unlike));
+    if let Some(found) = linkchecks::find_unlike(objects, common, heads) {
+        return Some(fault_of(UNLIKE, found));
     }
-    let twice = linkchecks::find_twice(objects, common);
-    if twice.there {
-        return Some(fault_of(TWICE, twice));
+    if let Some(found) = linkchecks::find_twice(objects, common) {
+        return Some(fault_of(TWICE, found));
     }
-    let past = linkchecks::past_limit(objects, common, room.min(base::RULES));
-    if past.there {
-        return Some(fault_of(base::OVER_LIMIT, past));
+    if let Some(found) = linkchecks::past_limit(objects, common, room.min(base::RULES)) {
+        return Some(fault_of(base::OVER_LIMIT, found));
     }
     None
 }
