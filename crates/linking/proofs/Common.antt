@@ -8,7 +8,8 @@ use borrow.Author.Tests.{ltb-false}
 use lib.ListN.{length}
 use Rattle.std.specs.Prelude.{if◌then◌else◌}
 use Rattle.declarations.specs.Decls.{Agrees, decls_of}
-use Rattle.declarer.specs.declared.Fault as found
+use Rattle.declarer.specs.Faults.{fault_of, at_of, len_of}
+use Rattle.std.specs.Prelude.{Result}
 use Rattle.linking.specs.Answered.{over_long, unread, misnamed, Leaves, Links}
 use Rattle.linking.specs.Linking.{IsRead, Rowed, Named, Declared}
 use Rattle.linking.specs.declared.Linked.{Linked}
@@ -109,14 +110,14 @@ module _ {common rows rows₁ : List ℕ} {room : ℕ} {d : code.Declared} (i : 
   pub few-lines : d.count - d.first ≤ 128
   few-lines = omega (arith, common-rows.count, common_in.few)
 
-  module _ {rows₂ : List ℕ} {f : found.Fault} {lines : ℕ} (l : lines ≡ d.count - d.first) (settles : Settles common rows₁ rows₂ d.count d.first lines f) where
+  module _ {rows₂ : List ℕ} (f : Result (Unit {0}) Refusal) {lines : ℕ} (l : lines ≡ d.count - d.first) (settles : Settles common rows₁ rows₂ d.count d.first lines f) where
     rows_of : RowsOf common rows₁ d.count d.first lines i.tree []
     rows_of = rw l (rows-alone common_in common-rows)
 
     settled : Settled common rows₂ d.count f i.tree [] (common_means i.tree [])
     settled = settles.settled i.tree [] rows_of
 
-    pub wrong-names : {objects old new : List ℕ} {q : Linked} → Leaves (refused f.fault 0 (record { start = f.at; size = f.len })) old new q → (f.fault ≡ 0 → ⊥) → Links common objects old new q
+    pub wrong-names : {objects old new : List ℕ} {q : Linked} → Leaves (refused (fault_of f) 0 (record { start = at_of f; size = len_of f })) old new q → (fault_of f ≡ 0 → ⊥) → Links common objects old new q
     wrong-names {objects} {old} {new} {q} left z = go (common_means i.tree []) refl settled
       where
         go : (m : Checked Names) → common_means i.tree [] ≡ m → Settled common rows₂ d.count f i.tree [] m → Links common objects old new q
@@ -141,7 +142,7 @@ module _ {common rows rows₁ : List ℕ} {room : ℕ} {d : code.Declared} (i : 
       sections = rw x (record { entries = rw held_are rows_of.entries; operators = a.operators });
     }
 
-    pub named : {heads : List ℕ} → f.fault ≡ 0 → length heads ≡ 4 * lines → (shared : Shared) → shared.n ≡ d.count → shared.others ≡ d.first → shared.room ≡ room → Named common rows₂ heads shared
+    pub named : {heads : List ℕ} → fault_of f ≡ 0 → length heads ≡ 4 * lines → (shared : Shared) → shared.n ≡ d.count → shared.others ≡ d.first → shared.room ≡ room → Named common rows₂ heads shared
     named {heads} z long shared x y w = go (common_means i.tree []) refl settled
       where
         go : (m : Checked Names) → common_means i.tree [] ≡ m → Settled common rows₂ d.count f i.tree [] m → Named common rows₂ heads shared

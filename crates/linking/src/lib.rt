@@ -2,6 +2,7 @@
 #![tactic(auto)]
 
 ghost use Rattle.std.specs.Prelude.{◌||◌, ◌≡◌, ◌+◌, ◌<◌, ◌≤◌, eqb, ltb, length};
+ghost use Rattle.base.specs.Faults.{fault_number};
 ghost use Rattle.linking.specs.Answered.{Leaves, Links};
 ghost use Rattle.linking.specs.Linking.{IsRead, Named, Declared, Finds, Sound, SoMany, LinksSound, IsClosed, LinksClosed};
 ghost use Rattle.machine.specs.Bytes.{words_of};
@@ -11,6 +12,7 @@ ghost use Rattle.parts.specs.Form.{AreObjects};
 ghost use Rattle.parts.specs.Link.{refused};
 ghost use Rattle.syntax.specs.Texts.{Common};
 
+use base::Refusal;
 use linkchecks::Found;
 use linkpairs::{Scope, Work};
 use translator::Answer;
@@ -81,6 +83,18 @@ fn refuse(table: &mut [u8], fault: Fault) -> Linked
 {
     let a = translator::refuse(table, fault.number, fault.start, fault.len);
     in_text(a, fault.text)
+}
+
+// A refusal in the common part.
+fn in_common(e: Refusal) -> Fault
+    ensures { result ≡ record { number = fault_number e.fault; text = 0; start = e.at; len = e.len } }
+{
+    Fault {
+        number: u16::from(e.fault),
+        text: 0,
+        start: e.at,
+        len: e.len,
+    }
 }
 
 fn fault_of(number: u16, found: Found) -> Fault
@@ -272,17 +286,8 @@ fn link_common(common: &[u8], objects: &[u8], table: &mut [u8], room: usize) -> 
     let mut rows = [0u16; frontend::ROWS];
     let d = partnames::declare(common, &mut rows);
     let lines = d.count - d.first;
-    let f = partnames::settle(common, &mut rows, d.count, d.first, lines);
-    if f.fault != 0 {
-        return refuse(
-            table,
-            Fault {
-                number: f.fault,
-                text: 0,
-                start: f.at,
-                len: f.len,
-            },
-        );
+    if let Err(e) = partnames::settle(common, &mut rows, d.count, d.first, lines) {
+        return refuse(table, in_common(e));
     }
     let mut heads = [0u16; HEADS];
     let size = partnames::HEAD * lines;
@@ -307,14 +312,6 @@ pub fn link(common: &[u8], objects: &[u8], table: &mut [u8]) -> Linked
 {
     match reader::check_common(common) {
         Ok(c) => link_common(common, objects, table, c.room),
-        Err(e) => {
-            let fault = Fault {
-                number: u16::from(e.fault),
-                text: 0,
-                start: e.at,
-                len: e.len,
-            };
-            refuse(table, fault)
-        }
+        Err(e) => refuse(table, in_common(e)),
     }
 }

@@ -11,7 +11,11 @@ use lib.ListN.{length, get_or, drop, length-drop}
 use lib.Seq.{drop-append-le, length-take-le}
 use borrow.Author.Tests.{eq-eqb, leb-false, ne_eqb}
 use Rattle.base.proofs.Laws.{lt-or-le}
-use Rattle.std.specs.Prelude.{None, if◌then◌else◌}
+use Rattle.std.specs.Prelude as code
+use Rattle.std.specs.Prelude.{Result, Ok, Err, None, if◌then◌else◌}
+use Rattle.base.specs.declared.Refusal.{Refusal}
+use Rattle.base.specs.declared.Fault.TheVariants.{OverLimit}
+use Rattle.declarer.specs.Faults.{fault_of, at_of, len_of}
 use Rattle.base.specs.Common.{same}
 use Rattle.base.specs.Tree.{done}
 use Rattle.collector.proofs.Laws.{appended, decl-is}
@@ -22,7 +26,6 @@ use Rattle.declarations.specs.Decls.{Decl, of_rule, rule_decls}
 use Rattle.names.specs.Understand.{is_one}
 use Rattle.parts.specs.Objects.{called_rules, fresh, past_names}
 use Rattle.partnames.specs.Mentioning.{Adds, added, past, AddsAll, AddsFrom, leads, Mentions, names, names_from, OneName, no_name, known, full, one_more, rules_held, Seen, stops, texts_of}
-use Rattle.partnames.specs.declared.Added.{Added}
 use Rattle.partnames.proofs.Listing.{turned-off}
 use Rattle.reader.specs.Answers.{Here}
 use Rattle.scanner.specs.Next.{as_word}
@@ -75,13 +78,13 @@ is-named led w e k = rw (e, eq-eqb w.kind 257 k) refl
 
 module _ (text rows : List ℕ) (first n : ℕ) (h : n ≤ 512) where
   -- no name
-  nothing-new : {led : Bool} {w : Word} → names led w ≡ false → Mentions text rows rows first n led w n
+  nothing-new : {led : Bool} {w : Word} → names led w ≡ false → Mentions text rows rows first n led w (code.Some n)
   nothing-new e = record { low = omega arith; high = omega arith; one = λ seen s z. no_name e refl refl }
 
-  pub not-led : {led : Bool} (w : Word) → not led ≡ true → Mentions text rows rows first n led w n
+  pub not-led : {led : Bool} (w : Word) → not led ≡ true → Mentions text rows rows first n led w (code.Some n)
   not-led {led} w e = nothing-new (unled led w (turned-off led e))
 
-  pub no-name-there : (led : Bool) (w : Word) → (w.kind ≡ 257 → ⊥) → Mentions text rows rows first n led w n
+  pub no-name-there : (led : Bool) (w : Word) → (w.kind ≡ 257 → ⊥) → Mentions text rows rows first n led w (code.Some n)
   no-name-there led w e = nothing-new (unnamed led w e)
 
   module _ (led : Bool) (w : WordAt) {b : Bool} (e : led ≡ true) (k : w.kind ≡ 257) (f : b ≡ is_one (part text w.start w.len) (rules_held text rows first n)) where
@@ -89,18 +92,18 @@ module _ (text rows : List ℕ) (first n : ℕ) (h : n ≤ 512) where
     its-name = is-named led (as_word text w) e k
 
     -- one of the rows
-    pub name-known : b ≡ true → Mentions text rows rows first n led (as_word text w) n
+    pub name-known : b ≡ true → Mentions text rows rows first n led (as_word text w) (code.Some n)
     name-known g = record { low = omega arith; high = omega arith; one = λ seen s z. known its-name (s.same (part text w.start w.len) ∙ sym f ∙ g) refl refl }
 
     -- no room
-    pub name-past : b ≡ false → n ≡ 512 → Mentions text rows rows first n led (as_word text w) 513
-    name-past g m = record { low = omega arith; high = omega arith; one = λ seen s z. full its-name (s.same (part text w.start w.len) ∙ sym f ∙ g) m refl }
+    pub name-past : b ≡ false → n ≡ 512 → Mentions text rows rows first n led (as_word text w) code.None
+    name-past g m = record { low = tt; high = tt; one = λ seen s z. full its-name (s.same (part text w.start w.len) ∙ sym f ∙ g) m refl }
 
     -- a row more
     abbrev its_row : Row
     its_row = record { class = 7; value = n - first; name = part_of w; second = None; third = None }
 
-    pub name_new : {rows' : List ℕ} {r : ℕ} → b ≡ false → (n ≡ 512 → ⊥) → Puts rows rows' n r its_row → Mentions text rows rows' first n led (as_word text w) r
+    pub name_new : {rows' : List ℕ} {r : ℕ} → b ≡ false → (n ≡ 512 → ⊥) → Puts rows rows' n r its_row → Mentions text rows rows' first n led (as_word text w) (code.Some r)
     unfolding rule_decls called_rules option_of
     name_new {rows'} {r} g m p = record {
       low = p.more;
@@ -108,7 +111,7 @@ module _ (text rows : List ℕ) (first n : ℕ) (h : n ≤ 512) where
       one = λ seen s z.
           let d : Decl = of_rule (n - first) (record { rule = as_word text w; gives = none; body = done; closing = as_word text w }) in
           let v : as_word text w ≡ word_of text 257 w.start w.len = ap (λ (i : ℕ). word_of text i w.start w.len) k in
-          one_more its-name (s.same (part text w.start w.len) ∙ sym f ∙ g) p.small
+          one_more its-name (s.same (part text w.start w.len) ∙ sym f ∙ g) refl p.small
           (appended text d p (decl-is text its_row d refl refl v refl refl) (record { size = z; room = omega (arith, m) }));
     }
 
@@ -141,7 +144,7 @@ unfolding names_from
 next-named led {w} h e = rw (h.more (goes_on w.kind e), e) refl
 
 pub adds_none : {text rows : List ℕ} {first n i : ℕ} {led : Bool} {w : WordAt} {b : Bool} → n ≤ 512 → Here text i w → b ≡ stops w.kind → b ≡ true
-    → AddsFrom text rows rows first n i led (record { count = n; fault = 0; at = 0; len = 0 })
+    → AddsFrom text rows rows first n i led (Ok n)
 unfolding fresh past_names called_rules rule_decls
 adds_none {text} {rows} {first} {n} {i} {led} {w} l h e f = record {
   low = omega arith;
@@ -150,7 +153,7 @@ adds_none {text} {rows} {first} {n} {i} {led} {w} l h e f = record {
 }
 
 -- the word is no name, or a name that is known
-same_rows : {text rows rows₁ rows' : List ℕ} {first n m : ℕ} {r : Added} (ws : List Word) → m ≡ n → rows₁ ≡ rows → AddsAll text rows₁ rows' first m r ws → AddsAll text rows rows' first n r ws
+same_rows : {text rows rows₁ rows' : List ℕ} {first n m : ℕ} {r : Result ℕ Refusal} (ws : List Word) → m ≡ n → rows₁ ≡ rows → AddsAll text rows₁ rows' first m r ws → AddsAll text rows rows' first n r ws
 same_rows ws e f a = rw e at (rw f at a)
 
 same_seen : {text rows rows₁ : List ℕ} {first n m : ℕ} {seen : List (List ℕ)} → m ≡ n → rows₁ ≡ rows → Seen text rows first n seen → Seen text rows₁ first m seen
@@ -209,7 +212,7 @@ past-then : (n m : ℕ) (w : Word) (ws : List Word) → m ≡ n + 1 → m ≤ 51
 unfolding past_names
 past-then n m w ws e l = let f : 512 - n ≡ suc (512 - m) = omega arith in rw f refl
 
-one_then : {text rows rows₁ rows' : List ℕ} {first n m : ℕ} {r : Added} (w : Word) (ws : List Word) (o : Option Word) → first ≤ n → Appends text rows rows₁ n m (row_of (n - first) w ∷ [])
+one_then : {text rows rows₁ rows' : List ℕ} {first n m : ℕ} {r : Result ℕ Refusal} (w : Word) (ws : List Word) (o : Option Word) → first ≤ n → Appends text rows rows₁ n m (row_of (n - first) w ∷ [])
     → Adds text rows₁ rows' first m r ws o → Adds text rows rows' first n r (w ∷ ws) o
 one_then {first = first} {n} {m} w ws none h a (added z b) =
     let c = a.counted in
@@ -229,46 +232,56 @@ fresh-first : (seen : List (List ℕ)) (t : Bool) (w : Word) (rest : List Word) 
 unfolding fresh
 fresh-first seen t w rest e k = rw (e, k) refl
 
-adds-step : {text rows rows₁ rows' : List ℕ} {first n m : ℕ} {led : Bool} {w : Word} {r : Added} {seen : List (List ℕ)} (rest : List Word) → first ≤ n → m ≤ 512 → Seen text rows first n seen
-    → OneName text rows rows₁ first n seen led w m → ((seen' : List (List ℕ)) → Seen text rows₁ first m seen' → AddsAll text rows₁ rows' first m r (fresh seen' rest))
+-- the count that is there
+code-some : {a b : ℕ} → ◌≡◌ {A = code.Option ℕ} (code.Some a) (code.Some b) → a ≡ b
+code-some e = cc
+
+-- from fewer rows on
+raised : {n m : ℕ} (r : Result ℕ Refusal) → n ≤ m → code.IfOk r (λ k. m ≤ k) → code.IfOk r (λ k. n ≤ k)
+raised (Ok k) h l = omega (arith, h, l)
+raised (Err x) h l = tt
+
+adds-step : {text rows rows₁ rows' : List ℕ} {first n m : ℕ} {led : Bool} {w : Word} {r : Result ℕ Refusal} {seen : List (List ℕ)} (rest : List Word) → first ≤ n → m ≤ 512 → Seen text rows first n seen
+    → OneName text rows rows₁ first n seen led w (code.Some m) → ((seen' : List (List ℕ)) → Seen text rows₁ first m seen' → AddsAll text rows₁ rows' first m r (fresh seen' rest))
     → AddsAll text rows rows' first n r (fresh seen (if names led w then w ∷ rest else rest))
-adds-step {led = led} {w} {seen = seen} rest l h s (no_name e f g) u = rw (fresh-none seen (names led w) w rest e) (same_rows (fresh seen rest) f g (u seen (same_seen f g s)))
-adds-step {led = led} {w} {seen = seen} rest l h s (known e k f g) u = rw (fresh-known seen (names led w) w rest e k) (same_rows (fresh seen rest) f g (u seen (same_seen f g s)))
-adds-step rest l h s (full e k f g) u = absurd (omega arith)
-adds-step {first = first} {n} {m} {led} {w} {seen = seen} rest l h s (one_more e k i a) u =
+adds-step {led = led} {w} {seen = seen} rest l h s (no_name e f g) u = let f' = code-some f in rw (fresh-none seen (names led w) w rest e) (same_rows (fresh seen rest) f' g (u seen (same_seen f' g s)))
+adds-step {led = led} {w} {seen = seen} rest l h s (known e k f g) u = let f' = code-some f in rw (fresh-known seen (names led w) w rest e k) (same_rows (fresh seen rest) f' g (u seen (same_seen f' g s)))
+adds-step rest l h s (full e k f g) u = let z : ◌≡◌ {A = code.Option ℕ} (code.Some _) code.None = g in cc
+adds-step {text} {rows} {rows₁} {first = first} {n} {m} {led} {w} {seen = seen} rest l h s (one_more e k q i b) u =
+    let a : Appends text rows rows₁ n m (rule_decls (n - first) (called_rules (w ∷ []))) = rw (← code-some q) at b in
     let a' = first-row w a in
     let c = a'.counted in
     let ws = fresh (w.text ∷ seen) rest in
     rw (fresh-first seen (names led w) w rest e k, past-then n m w ws (omega arith) h) (one_then w ws (past_names (512 - m) ws) l a' (u (w.text ∷ seen) (seen_more first l a' s)))
 
-pub adds_on : {text rows rows₁ rows' : List ℕ} {first n i m : ℕ} {led t : Bool} {w : WordAt} {b : Bool} {r : Added} → first ≤ n → m ≤ 512 → length rows₁ ≡ length rows → Here text i w → b ≡ stops w.kind → b ≡ false
-    → Mentions text rows rows₁ first n led (as_word text w) m → t ≡ leads w.kind → AddsFrom text rows₁ rows' first m w.next t r → AddsFrom text rows rows' first n i led r
-adds_on {text} {led = led} {w = w} l k y h e f u d v = record {
-  low = omega (arith, u.low, v.low);
+pub adds_on : {text rows rows₁ rows' : List ℕ} {first n i m : ℕ} {led t : Bool} {w : WordAt} {b : Bool} {r : Result ℕ Refusal} → first ≤ n → m ≤ 512 → length rows₁ ≡ length rows → Here text i w → b ≡ stops w.kind → b ≡ false
+    → Mentions text rows rows₁ first n led (as_word text w) (code.Some m) → t ≡ leads w.kind → AddsFrom text rows₁ rows' first m w.next t r → AddsFrom text rows rows' first n i led r
+adds_on {text} {led = led} {w = w} {r = r} l k y h e f u d v = record {
+  low = raised r u.low v.low;
   high = v.high;
   adds = λ seen s z.
       rw (next-named led h (sym e ∙ f))
       (adds-step (names_from (leads w.kind) (words_at text w.next)) l k s (u.one seen s z) (λ seen' s'. rw d at (v.adds seen' s' (y ∙ z))));
 }
 
-full-step : {text rows rows₁ rows' : List ℕ} {first n m : ℕ} {led : Bool} {w : Word} {r : Added} {seen : List (List ℕ)} (rest : List Word) → 512 < m → n ≤ 512 → OneName text rows rows₁ first n seen led w m
-    → r.fault ≡ 9 → r.at ≡ w.start → r.len ≡ length w.text → AddsAll text rows rows' first n r (fresh seen (if names led w then w ∷ rest else rest))
+full-step : {text rows rows₁ rows' : List ℕ} {first n : ℕ} {led : Bool} {w : Word} {r : Result ℕ Refusal} {seen : List (List ℕ)} (rest : List Word) → OneName text rows rows₁ first n seen led w code.None
+    → fault_of r ≡ 9 → at_of r ≡ w.start → len_of r ≡ length w.text → AddsAll text rows rows' first n r (fresh seen (if names led w then w ∷ rest else rest))
 unfolding past_names
-full-step rest h l (no_name e f g) x y z = absurd (omega arith)
-full-step rest h l (known e k f g) x y z = absurd (omega arith)
-full-step {n = n} {led = led} {w} {seen = seen} rest h l (full e k f g) x y z =
+full-step rest (no_name e f g) x y z = let q : ◌≡◌ {A = code.Option ℕ} code.None (code.Some _) = f in cc
+full-step rest (known e k f g) x y z = let q : ◌≡◌ {A = code.Option ℕ} code.None (code.Some _) = f in cc
+full-step {n = n} {led = led} {w} {seen = seen} rest (full e k f g) x y z =
     let o : 512 - n ≡ 0 = omega arith in
     rw (fresh-first seen (names led w) w rest e k, o) (past x y z)
-full-step rest h l (one_more e k i a) x y z = absurd (omega arith)
+full-step rest (one_more e k f i a) x y z = let q : ◌≡◌ {A = code.Option ℕ} code.None (code.Some _) = f in cc
 
-pub adds-past : {text rows rows₁ : List ℕ} {first n i m : ℕ} {led : Bool} {w : WordAt} {b : Bool} → n ≤ 512 → 512 < m → Here text i w → b ≡ stops w.kind → b ≡ false
-    → Mentions text rows rows₁ first n led (as_word text w) m → AddsFrom text rows rows₁ first n i led (record { count = n; fault = 9; at = w.start; len = w.len })
-adds-past {text} {led = led} {w} l k h e f u = record {
-  low = omega arith;
-  high = l;
+pub adds-past : {text rows rows₁ : List ℕ} {first n i : ℕ} {led : Bool} {w : WordAt} {b : Bool} → n ≤ 512 → Here text i w → b ≡ stops w.kind → b ≡ false
+    → Mentions text rows rows₁ first n led (as_word text w) code.None → AddsFrom text rows rows₁ first n i led (Err (record { fault = OverLimit; at = w.start; len = w.len }))
+adds-past {text} {led = led} {w} l h e f u = record {
+  low = tt;
+  high = tt;
   adds = λ seen s z.
       rw (next-named led h (sym e ∙ f))
-      (full-step (names_from (leads w.kind) (words_at text w.next)) k l (u.one seen s z) refl refl
+      (full-step (names_from (leads w.kind) (words_at text w.next)) (u.one seen s z) refl refl
       (sym (length-take-le w.len (drop w.start text) (omega (arith, h.inside, length-drop w.start text)))));
 }
 

@@ -1,7 +1,6 @@
 -- The faults of a common part, by its rows.
 use mathlib.Core.List.{List, [], ◌∷◌, ◌++◌, append_assoc}
 use mathlib.Core.Option.{some}
-use mathlib.Core.Bool.{true, false, false≢true}
 use mathlib.Core.Path.{◌≡◌, refl, sym, ap, subst, ◌∙◌}
 use Prim.Native.Nat.{ℕ, zero, suc, ◌+◌, ◌-◌, ◌≤◌}
 use native.Mathlib.Omega.{arith}
@@ -12,10 +11,8 @@ use Rattle.declarations.proofs.Whole.{length-sections}
 use Rattle.declarations.specs.Decls.{Agrees, Decl, EntriesAt, decl_faults, decls_of, entries_of, rule_decls, sections_decls}
 use Rattle.declarer.proofs.Lines.{lines-mean}
 use Rattle.base.specs.declared.Refusal.{Refusal}
-use Rattle.std.specs.Prelude.{Result, Ok, Err, is_err}
-use Rattle.symbols.proofs.Numbered.{fault-some}
-use Rattle.declarer.specs.Faults.{Faults, clean, faulty, fault_of, line_faults, lines_mean}
-use Rattle.declarer.specs.declared.Fault.{Fault}
+use Rattle.std.specs.Prelude.{Result}
+use Rattle.declarer.specs.Faults.{Faults, clean, faulty, fault_of, at_of, len_of, line_faults, lines_mean}
 use Rattle.names.specs.Declare.{declare_sections, known_rules}
 use Rattle.names.specs.Known.{Checked, good, wrong, ◌>>=◌, Known, Names, lookup_type, optional_type}
 use Rattle.names.specs.Understand.{nobody}
@@ -108,18 +105,12 @@ means-by c rs = refl
 abbrev asked : Common → List Rule → Checked (Unit {0})
 asked c rs = decl_faults (decls_of (together c rs)) (entries_of (together c rs)) [] (decls_of (together c rs))
 
--- a result in numbers
-pub some-fault : {A : Type 0} (r : Result A Refusal) → is_err r ≡ true → fault_of r ≡ 0 → ⊥
-some-fault (Ok a) e z = false≢true e
-some-fault (Err x) e z = fault-some x.fault z
-
-pub no-fault : {A : Type 0} (r : Result A Refusal) → is_err r ≡ false → fault_of r ≡ 0
-no-fault (Ok a) e = refl
-no-fault (Err x) e = absurd (false≢true (sym e))
+abbrev Told : Type 0
+Told = Result (Unit {0}) Refusal
 
 -- what the checks tell of the rows, for all entries that stand at their places
-abbrev Checks : List ℕ → List ℕ → ℕ → Fault → Type 0
-Checks text rows n f = (entries : ℕ → List Operator) → EntriesAt text (held text rows n) entries → Faults f.fault f.at f.len (decl_faults (held text rows n) entries [] (held text rows n))
+abbrev Checks : List ℕ → List ℕ → ℕ → Told → Type 0
+Checks text rows n f = (entries : ℕ → List Operator) → EntriesAt text (held text rows n) entries → Faults (fault_of f) (at_of f) (len_of f) (decl_faults (held text rows n) entries [] (held text rows n))
 
 sections-wrong : (c : Common) (rs : List Rule) (k : ℕ) (w : Word) → length (decls_of (together c rs)) ≤ 512 → asked c rs ≡ wrong k w → common_means c rs ≡ wrong k w
 unfolding outcome together
@@ -143,7 +134,7 @@ sections-good c rs few e =
           ∙ ap (λ (m : Checked (Unit {0})). ◌>>=◌ m (λ _. good x.0)) (list-faults c rs x.0 x.2);
     }
 
-module _ (text rows rows' : List ℕ) (n first lines : ℕ) (same : (t : List ℕ) → held t rows' n ≡ held t rows n) (few : n ≤ 512) {f : Fault} (k : Checks text rows' n f) (c : Common) (rs : List Rule)
+module _ (text rows rows' : List ℕ) (n first lines : ℕ) (same : (t : List ℕ) → held t rows' n ≡ held t rows n) (few : n ≤ 512) (f : Told) (k : Checks text rows' n f) (c : Common) (rs : List Rule)
     (r : RowsOf text rows n first lines c rs) where
   held-is : held text rows' n ≡ decls_of (together c rs)
   held-is = same text ∙ r.rows_are
@@ -151,21 +142,21 @@ module _ (text rows rows' : List ℕ) (n first lines : ℕ) (same : (t : List �
   few-rows : length (decls_of (together c rs)) ≤ 512
   few-rows = let e = ap (λ (ds : List Decl). length ds) r.rows_are in omega (arith, held_size text rows n)
 
-  checked : Faults f.fault f.at f.len (asked c rs)
+  checked : Faults (fault_of f) (at_of f) (len_of f) (asked c rs)
   checked =
-      subst (λ ds. Faults f.fault f.at f.len (decl_faults ds (entries_of (together c rs)) [] ds)) held-is
+      subst (λ ds. Faults (fault_of f) (at_of f) (len_of f) (decl_faults ds (entries_of (together c rs)) [] ds)) held-is
       (k (entries_of (together c rs)) (subst (λ ds. EntriesAt text ds (entries_of (together c rs))) (sym held-is) r.entries))
 
   -- a fault of the sections
-  settled-wrong : (f.fault ≡ 0 → ⊥) → Settled text rows' n f c rs (common_means c rs)
+  settled-wrong : (fault_of f ≡ 0 → ⊥) → Settled text rows' n f c rs (common_means c rs)
   settled-wrong z = go (asked c rs) refl checked
     where
-      go : (m : Checked (Unit {0})) → asked c rs ≡ m → Faults f.fault f.at f.len m → Settled text rows' n f c rs (common_means c rs)
+      go : (m : Checked (Unit {0})) → asked c rs ≡ m → Faults (fault_of f) (at_of f) (len_of f) m → Settled text rows' n f c rs (common_means c rs)
       go (good tt) d (clean q) = absurd (z q)
       go (wrong i w) d (faulty q nonzero start l) = rw (sections-wrong c rs i w few-rows d) (settling.faulty q nonzero start l)
 
   -- none: those of the list
-  settled_lines : {g : Fault} → f.fault ≡ 0 → first + lines ≤ n → Faults g.fault g.at g.len (line_faults (held text rows' n) (held text rows' first) (held_from text rows' first (first + lines - first)))
+  settled_lines : {g : Told} → fault_of f ≡ 0 → first + lines ≤ n → Faults (fault_of g) (at_of g) (len_of g) (line_faults (held text rows' n) (held text rows' first) (held_from text rows' first (first + lines - first)))
       → Settled text rows' n g c rs (common_means c rs)
   settled_lines {g} z h b = go (asked c rs) refl checked
     where
@@ -182,28 +173,28 @@ module _ (text rows rows' : List ℕ) (n first lines : ℕ) (same : (t : List �
           (omega (arith, lines-count c.listed, r.lines_are)) h
 
       last : (names : Names) → declare_sections (together c rs) c.sections nobody ≡ good names → Agrees (together c rs) names (known_rules 0 (together c rs).rules) (decls_of (together c rs))
-          → {m : Checked (Unit {0})} → Faults g.fault g.at g.len m → Settled text rows' n g c rs (◌>>=◌ m (λ _. good names))
+          → {m : Checked (Unit {0})} → Faults (fault_of g) (at_of g) (len_of g) m → Settled text rows' n g c rs (◌>>=◌ m (λ _. good names))
       last names d a (clean q) = in_order q d (subst (λ ds. Agrees (together c rs) names (known_rules 0 (together c rs).rules) ds) (sym held-is) a)
       last names d a (faulty q nonzero start l) = settling.faulty q nonzero start l
 
-      go : (m : Checked (Unit {0})) → asked c rs ≡ m → Faults f.fault f.at f.len m → Settled text rows' n g c rs (common_means c rs)
+      go : (m : Checked (Unit {0})) → asked c rs ≡ m → Faults (fault_of f) (at_of f) (len_of f) m → Settled text rows' n g c rs (common_means c rs)
       go (wrong i w) d (faulty q nonzero start l) = absurd (nonzero (sym q ∙ z))
       go (good tt) d (clean q) = let x = sections-good c rs few-rows d in rw x.means (last x.names x.declares x.agrees (rw (held-is, before, between) at b))
 
-pub settles-wrong : {text rows rows' : List ℕ} {n first lines : ℕ} {f : Fault} → length rows' ≡ length rows → Kept text rows' n → ((t : List ℕ) → held t rows' n ≡ held t rows n) → Checks text rows' n f
-    → (f.fault ≡ 0 → ⊥) → Settles text rows rows' n first lines f
-settles-wrong {text} {rows} {rows'} {n} {first} {lines} size kept same k z = record {
+pub settles-wrong : {text rows rows' : List ℕ} {n first lines : ℕ} {f : Told} → length rows' ≡ length rows → Kept text rows' n → ((t : List ℕ) → held t rows' n ≡ held t rows n) → Checks text rows' n f
+    → (fault_of f ≡ 0 → ⊥) → Settles text rows rows' n first lines f
+settles-wrong {text} {rows} {rows'} {n} {first} {lines} {f} size kept same k z = record {
   size = size;
   kept = kept;
   same = same;
-  settled = λ c rs r. settled-wrong text rows rows' n first lines same kept.few k c rs r z;
+  settled = λ c rs r. settled-wrong text rows rows' n first lines same kept.few f k c rs r z;
 }
 
-pub settles-lines : {text rows rows' : List ℕ} {n first lines : ℕ} {f g : Fault} → length rows' ≡ length rows → Kept text rows' n → ((t : List ℕ) → held t rows' n ≡ held t rows n) → Checks text rows' n f
-    → f.fault ≡ 0 → first + lines ≤ n → Faults g.fault g.at g.len (line_faults (held text rows' n) (held text rows' first) (held_from text rows' first (first + lines - first))) → Settles text rows rows' n first lines g
-settles-lines {text} {rows} {rows'} {n} {first} {lines} size kept same k z h b = record {
+pub settles-lines : {text rows rows' : List ℕ} {n first lines : ℕ} {g : Told} (f : Told) → length rows' ≡ length rows → Kept text rows' n → ((t : List ℕ) → held t rows' n ≡ held t rows n) → Checks text rows' n f
+    → fault_of f ≡ 0 → first + lines ≤ n → Faults (fault_of g) (at_of g) (len_of g) (line_faults (held text rows' n) (held text rows' first) (held_from text rows' first (first + lines - first))) → Settles text rows rows' n first lines g
+settles-lines {text} {rows} {rows'} {n} {first} {lines} f size kept same k z h b = record {
   size = size;
   kept = kept;
   same = same;
-  settled = λ c rs r. settled_lines text rows rows' n first lines same kept.few k c rs r z h b;
+  settled = λ c rs r. settled_lines text rows rows' n first lines same kept.few f k c rs r z h b;
 }

@@ -5,7 +5,8 @@ use Prim.Native.Nat.{ℕ, ◌+◌, ◌*◌, ◌-◌, ◌≤◌}
 use native.Mathlib.Omega.{arith}
 use lib.ListN.{length}
 use Rattle.declarations.specs.Decls.{EntriesAt, entries_of}
-use Rattle.declarer.specs.declared.Fault.{Fault}
+use Rattle.base.specs.declared.Refusal.{Refusal}
+use Rattle.std.specs.Prelude.{Result}
 use Rattle.objects.specs.Places.{HeadsAt}
 use Rattle.parts.specs.Objects.{together}
 use Rattle.partnames.proofs.Commons.{end-no-line, listed-in-text}
@@ -27,7 +28,7 @@ common-rows {c = c} l b z = let i = listed-in-text l in rows-alone i (b.common c
 
 -- Rows that were settled are the same rows
 
-pub rows_settled : {text rows rows' : List ℕ} {n first lines : ℕ} {f : Fault} {c : Common} {rs : List Rule} → Settles text rows rows' n first lines f → RowsOf text rows n first lines c rs → RowsOf text rows' n first lines c rs
+pub rows_settled : {text rows rows' : List ℕ} {n first lines : ℕ} {f : Result (Unit {0}) Refusal} {c : Common} {rs : List Rule} → Settles text rows rows' n first lines f → RowsOf text rows n first lines c rs → RowsOf text rows' n first lines c rs
 rows_settled {text} s r = record { rows_are = s.same text ∙ r.rows_are; entries = r.entries; first_is = r.first_is; lines_are = r.lines_are }
 
 pub entries-held : {text rows : List ℕ} {n first lines : ℕ} {c : Common} {rs : List Rule} → RowsOf text rows n first lines c rs → EntriesAt text (held text rows n) (entries_of (together c rs))

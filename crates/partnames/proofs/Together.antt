@@ -23,7 +23,8 @@ use Rattle.partnames.proofs.Named.{rules-names}
 use Rattle.partnames.specs.Declaring.{CommonIn, CommonRows}
 use Rattle.partnames.specs.Mentioning.{Adds, added, past, AddsFrom, Seen, texts_of}
 use Rattle.partnames.specs.Settling.{Rowed, in_rows, past_names_lem, RowsOf}
-use Rattle.partnames.specs.declared.Added.{Added}
+use Rattle.std.specs.Prelude.{Result}
+use Rattle.base.specs.declared.Refusal.{Refusal}
 use Rattle.partnames.specs.declared.Declared.{Declared}
 use Rattle.symbols.specs.Rows.{held, held_from}
 use Rattle.syntax.specs.Reading.{peek}
@@ -96,7 +97,7 @@ list-seen {text} {rows} {d} {ws'} {c} r =
 
 -- All rows
 
-all-rowed : {text rows rows' : List ℕ} {d : Declared} {ws' : List Word} {c : Common} (rs : List Rule) {a : Added} {o : Option Word} → CommonRows text rows d ws' c
+all-rowed : {text rows rows' : List ℕ} {d : Declared} {ws' : List Word} {c : Common} (rs : List Rule) {a : Result ℕ Refusal} {o : Option Word} → CommonRows text rows d ws' c
     → Adds text rows rows' d.first d.count a (others c.listed rs) o → Rowed text rows' d.first a c rs o
 all-rowed {text} {rows} {rows'} {d} {ws'} {c} rs {a} r (added z b) =
     let e : d.count - d.first ≡ length c.listed = omega (arith, r.count) in
@@ -107,7 +108,7 @@ all-rowed {text} {rows} {rows'} {d} {ws'} {c} rs {a} r (added z b) =
     (omega (arith, b.counted, r.count, n, rules-length c rs))
 all-rowed rs r (past z i l) = past_names_lem z i l
 
-pub others-rowed : {text rows rows' : List ℕ} {d : Declared} {ws ws' left : List Word} {c : Common} {rs : List Rule} {a : Added} → CommonIn ws ws' c → CommonRows text rows d ws' c
+pub others-rowed : {text rows rows' : List ℕ} {d : Declared} {ws ws' left : List Word} {c : Common} {rs : List Rule} {a : Result ℕ Refusal} → CommonIn ws ws' c → CommonRows text rows d ws' c
     → AddsFrom text rows rows' d.first d.count d.at true a → length rows ≡ 6017 → RulesIn (words_at text d.at) left rs → (peek left).kind ≡ 266
     → Rowed text rows' d.first a c rs (past_names (c.left - length c.listed) (others c.listed rs))
 unfolding others

@@ -1,11 +1,13 @@
 -- The other rules that a part names, as rows behind those of the list.
-use Rattle.std.specs.Prelude.{Bool, true, false, ◌&&◌, ◌||◌, List, [], ◌∷◌, ◌≡◌, ℕ, ◌-◌, ◌≤◌, eqb, leb, length, if◌then◌else◌}
+use Rattle.std.specs.Prelude as code
+use Rattle.std.specs.Prelude.{Result, Ok, IfSome, IfOk, Bool, true, false, ◌&&◌, ◌||◌, List, [], ◌∷◌, ◌≡◌, ℕ, ◌-◌, ◌≤◌, eqb, leb, length, if◌then◌else◌}
 use Rattle.std.proofs.Math.Option.{Option, none, some}
+use Rattle.base.specs.declared.Refusal.{Refusal}
 use Rattle.collector.specs.Collecting.{Appends}
+use Rattle.declarer.specs.Faults.{fault_of, at_of, len_of}
 use Rattle.declarations.specs.Decls.{Decl, rule_decls}
 use Rattle.names.specs.Understand.{is_one}
 use Rattle.parts.specs.Objects.{called_rules, fresh, past_names}
-use Rattle.partnames.specs.declared.Added.{Added}
 use Rattle.symbols.specs.Rows.{held_from}
 use Rattle.words.specs.Words.{Word, words_at}
 
@@ -41,31 +43,31 @@ rules_held text rows first n = texts_of (held_from text rows first (n - first))
 pub record Seen (text rows : List ℕ) (first n : ℕ) (seen : List (List ℕ)) : Type 0 where
   pub same : (w : List ℕ) → is_one w seen ≡ is_one w (rules_held text rows first n)
 
--- one word: r rows afterwards, 513 where there was no room for one more
-pub data OneName (text rows rows' : List ℕ) (first n : ℕ) (seen : List (List ℕ)) (led : Bool) (w : Word) (r : ℕ) : Type 0 where
-  no_name : names led w ≡ false → r ≡ n → rows' ≡ rows → OneName text rows rows' first n seen led w r
-  known : names led w ≡ true → is_one w.text seen ≡ true → r ≡ n → rows' ≡ rows → OneName text rows rows' first n seen led w r
-  full : names led w ≡ true → is_one w.text seen ≡ false → n ≡ 512 → r ≡ 513 → OneName text rows rows' first n seen led w r
-  one_more : names led w ≡ true → is_one w.text seen ≡ false → r ≤ 512 → Appends text rows rows' n r (rule_decls (n - first) (called_rules (w ∷ [])))
+-- one word: r rows afterwards, none where there was no room for one more
+pub data OneName (text rows rows' : List ℕ) (first n : ℕ) (seen : List (List ℕ)) (led : Bool) (w : Word) (r : code.Option ℕ) : Type 0 where
+  no_name : names led w ≡ false → r ≡ code.Some n → rows' ≡ rows → OneName text rows rows' first n seen led w r
+  known : names led w ≡ true → is_one w.text seen ≡ true → r ≡ code.Some n → rows' ≡ rows → OneName text rows rows' first n seen led w r
+  full : names led w ≡ true → is_one w.text seen ≡ false → n ≡ 512 → r ≡ code.None → OneName text rows rows' first n seen led w r
+  one_more : {m : ℕ} → names led w ≡ true → is_one w.text seen ≡ false → r ≡ code.Some m → m ≤ 512 → Appends text rows rows' n m (rule_decls (n - first) (called_rules (w ∷ [])))
       → OneName text rows rows' first n seen led w r
 
-pub record Mentions (text rows rows' : List ℕ) (first n : ℕ) (led : Bool) (w : Word) (r : ℕ) : Type 0 where
-  pub low : n ≤ r
-  pub high : r ≤ 513
+pub record Mentions (text rows rows' : List ℕ) (first n : ℕ) (led : Bool) (w : Word) (r : code.Option ℕ) : Type 0 where
+  pub low : IfSome r (λ m. n ≤ m)
+  pub high : IfSome r (λ m. m ≤ 512)
   pub one : (seen : List (List ℕ)) → Seen text rows first n seen → length rows ≡ 6017 → OneName text rows rows' first n seen led w r
 
 -- rows for the words ws, or the first of them that there is no room for
-pub data Adds (text rows rows' : List ℕ) (first n : ℕ) (r : Added) (ws : List Word) : Option Word → Type 0 where
-  added : r.fault ≡ 0 → Appends text rows rows' n r.count (rule_decls (n - first) (called_rules ws)) → Adds text rows rows' first n r ws none
-  past : {w : Word} → r.fault ≡ 9 → r.at ≡ w.start → r.len ≡ length w.text → Adds text rows rows' first n r ws (some w)
+pub data Adds (text rows rows' : List ℕ) (first n : ℕ) (r : Result ℕ Refusal) (ws : List Word) : Option Word → Type 0 where
+  added : {m : ℕ} → r ≡ Ok m → Appends text rows rows' n m (rule_decls (n - first) (called_rules ws)) → Adds text rows rows' first n r ws none
+  past : {w : Word} → fault_of r ≡ 9 → at_of r ≡ w.start → len_of r ≡ length w.text → Adds text rows rows' first n r ws (some w)
 
-abbrev pub AddsAll : List ℕ → List ℕ → List ℕ → ℕ → ℕ → Added → List Word → Type 0
+abbrev pub AddsAll : List ℕ → List ℕ → List ℕ → ℕ → ℕ → Result ℕ Refusal → List Word → Type 0
 AddsAll text rows rows' first n r ws = Adds text rows rows' first n r ws (past_names (512 - n) ws)
 
 -- the words from the place `at` on
-pub record AddsFrom (text rows rows' : List ℕ) (first n at : ℕ) (led : Bool) (r : Added) : Type 0 where
-  pub low : n ≤ r.count
-  pub high : r.count ≤ 512
+pub record AddsFrom (text rows rows' : List ℕ) (first n at : ℕ) (led : Bool) (r : Result ℕ Refusal) : Type 0 where
+  pub low : IfOk r (λ m. n ≤ m)
+  pub high : IfOk r (λ m. m ≤ 512)
   pub adds : (seen : List (List ℕ)) → Seen text rows first n seen → length rows ≡ 6017 → AddsAll text rows rows' first n r (fresh seen (names_from led (words_at text at)))
 
 -- all of this file computes where this is unfolded

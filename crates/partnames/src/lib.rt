@@ -3,7 +3,6 @@
 
 ghost use Rattle.std.specs.Prelude.{true, ◌≡◌, ◌+◌, ◌*◌, ◌-◌, ◌≤◌, ◌<◌, length, take};
 ghost use Rattle.names.specs.Understand.{is_one};
-ghost use Rattle.declarer.specs.Faults.{fault_of, at_of, len_of};
 ghost use Rattle.partnames.specs.Buffer.{Copies, Fills, part_place, both_texts};
 ghost use Rattle.partnames.specs.Declaring.{BeginsLine, SomeLines, Declares};
 ghost use Rattle.partnames.specs.Heads.{Inside, CopiesPart, CopiesHeads};
@@ -12,9 +11,8 @@ ghost use Rattle.partnames.specs.Settling.{Settles};
 ghost use Rattle.scanner.specs.Next.{as_word};
 ghost use Rattle.symbols.specs.Search.{part};
 
-use base::{Refusal, number};
+use base::{Fault, Refusal, number};
 use collector::{Part, Row, Spot, State};
-use declarer::Fault;
 use reader::{Seen, look};
 use scanner::WordAt;
 
@@ -29,22 +27,10 @@ pub struct Declared {
     pub at: usize,
 }
 
-// How many rows there are; 0, or 9 and the first word for which there was no room.
-#[derive(Clone, Copy, Debug, PartialEq, Eq)]
-pub struct Added {
-    pub count: usize,
-    pub fault: u16,
-    pub at: usize,
-    pub len: usize,
-}
-
 // A line of the list takes this many numbers: where its name starts and its length, and the same of its type.
 pub const HEAD: usize = 4;
 
 const HEAD_TYPE: usize = 2;
-
-// No room for one row more: one above the most names.
-const FULL: usize = base::NAMES + 1;
 
 // One text of both
 
@@ -185,22 +171,26 @@ fn stops(kind: u16) -> bool
     kind <= words::LAST || kind == words::END
 }
 
-// A row for the word w, if it names a rule that has none: how many rows there are then, FULL where there was no room for it.
-fn add_name(text: &[u8], rows: &mut [u16], n: usize, first: usize, led: bool, w: WordAt) -> usize
+// A row for the word w, if it names a rule that has none: how many rows there are then; none where there was no room for it.
+fn add_name(
+    text: &[u8],
+    rows: &mut [u16],
+    n: usize,
+    first: usize,
+    led: bool,
+    w: WordAt,
+) -> Option<usize>
     requires { (first ≤ n) × (n ≤ 512) × (length text.now ≤ 65535) × (w.start + w.len ≤ length text.now) }
     ensures { Mentions text.now rows.old rows.new first n led (as_word text.now w) result }
 {
-    if !led {
-        return n;
-    }
-    if w.kind != words::NAME {
-        return n;
+    if !led || w.kind != words::NAME {
+        return Some(n);
     }
     if is_rule(text, rows, first, n, w.start, w.len) {
-        return n;
+        return Some(n);
     }
     if n == base::NAMES {
-        return FULL;
+        return None;
     }
     let d = Row {
         class: symbols::RULE,
@@ -209,11 +199,18 @@ fn add_name(text: &[u8], rows: &mut [u16], n: usize, first: usize, led: bool, w:
         second: None,
         third: None,
     };
-    collector::put_row(rows, n, d)
+    Some(collector::put_row(rows, n, d))
 }
 
-// A row for each rule that the rules from the place `at` on name and that has none.
-pub fn add_others(text: &[u8], rows: &mut [u16], n: usize, first: usize, at: usize) -> Added
+// A row for each rule that the rules from the place `at` on name and that has none: how many rows there are then, or 9 at the first word for which
+// there was no room.
+pub fn add_others(
+    text: &[u8],
+    rows: &mut [u16],
+    n: usize,
+    first: usize,
+    at: usize,
+) -> Result<usize, Refusal>
     requires { (first ≤ n) × (n ≤ 512) × (length text.now ≤ 65535) × (at ≤ length text.now) }
     ensures { AddsFrom text.now rows.old rows.new first n at true result }
 {
@@ -225,23 +222,16 @@ pub fn add_others(text: &[u8], rows: &mut [u16], n: usize, first: usize, at: usi
         let w = look(text, i);
         let end = stops(w.kind);
         if end {
-            return Added {
-                count,
-                fault: 0,
-                at: 0,
-                len: 0,
-            };
+            return Ok(count);
         }
-        let c = add_name(text, rows, count, first, led, w);
-        if base::NAMES < c {
-            return Added {
-                count,
-                fault: base::OVER_LIMIT,
+        let Some(more) = add_name(text, rows, count, first, led, w) else {
+            return Err(Refusal {
+                fault: Fault::OverLimit,
                 at: w.start,
                 len: w.len,
-            };
-        }
-        count = c;
+            });
+        };
+        count = more;
         led = leads(w.kind);
         i = w.next;
     }
@@ -249,34 +239,20 @@ pub fn add_others(text: &[u8], rows: &mut [u16], n: usize, first: usize, at: usi
 
 // Faults
 
-fn told(outcome: Result<(), Refusal>) -> Fault
-    ensures { (result.fault ≡ fault_of outcome) × (result.at ≡ at_of outcome) × (result.len ≡ len_of outcome) }
-{
-    match outcome {
-        Ok(()) => Fault {
-            fault: 0,
-            at: 0,
-            len: 0,
-        },
-        Err(refusal) => Fault {
-            fault: u16::from(refusal.fault),
-            at: refusal.at,
-            len: refusal.len,
-        },
-    }
-}
-
 // The first fault of the sections and of the list, whose lines are `lines` rows from `first` on; the first n rows are indexed.
-pub fn settle(text: &[u8], rows: &mut [u16], n: usize, first: usize, lines: usize) -> Fault
+pub fn settle(
+    text: &[u8],
+    rows: &mut [u16],
+    n: usize,
+    first: usize,
+    lines: usize,
+) -> Result<(), Refusal>
     requires { (length rows.old ≡ 6017) × (n ≤ 512) × (first + lines ≤ n) }
     ensures { Settles text.now rows.old rows.new n first lines result }
 {
     symbols::index(text, rows, n);
-    let declarations = declarer::check_declarations(text, rows, n);
-    if declarations.is_err() {
-        return told(declarations);
-    }
-    told(declarer::check_lines(text, rows, n, first, first + lines))
+    declarer::check_declarations(text, rows, n)?;
+    declarer::check_lines(text, rows, n, first, first + lines)
 }
 
 // The list as numbers

@@ -1,5 +1,5 @@
 -- The steps from two texts to an object, each told by the definition of crate parts.
-use Rattle.std.specs.Prelude.{List, [], ◌≡◌, ℕ, ◌+◌, ◌-◌, ◌≤◌, length}
+use Rattle.std.specs.Prelude.{Result, Ok, Err, IfOk, List, [], ◌≡◌, ℕ, ◌+◌, ◌-◌, ◌≤◌, length}
 use Rattle.declarations.specs.Decls.{Agrees, EntriesAt, decls_of, entries_of}
 use Rattle.grammar.specs.Derived.{RulesIn}
 use Rattle.names.specs.Known.{good, Names}
@@ -74,16 +74,16 @@ unfoldable pub opened_by : Common → List Rule → Names → Translated
 opened_by c rs names =
     of_part (open_all (together c rs) names (open_rules c.listed rs) [] rs) (λ os. object (record { rules = os; uses = pairs_of rs; aims = aims_of c.listed rs }))
 
-pub data Finds (text rows : List ℕ) (moved : ℕ) (r : Named) {at : ℕ} (s : StandsIn text at) : Type 0 where
-  names_found : (names : Names) → r.fault.number ≡ 0 → common_means s.shared s.rules ≡ good names → Known text rows r.count (r.count - r.first) s.shared s.rules names
+pub data Finds (text rows : List ℕ) (moved : ℕ) (r : Result Named Fault) {at : ℕ} (s : StandsIn text at) : Type 0 where
+  names_found : (names : Names) {x : Named} → r ≡ Ok x → common_means s.shared s.rules ≡ good names → Known text rows x.count (x.count - x.first) s.shared s.rules names
       → translated_in moved s ≡ move_translated (back moved) (opened_by s.shared s.rules names) → Finds text rows moved r s
-  names_faulty : (r.fault.number ≡ 0 → ⊥) → Refuses r.fault (translated_in moved s) → Finds text rows moved r s
+  names_faulty : {f : Fault} → r ≡ Err f → (f.number ≡ 0 → ⊥) → Refuses f (translated_in moved s) → Finds text rows moved r s
 
-pub record FindsNames (text rows rows' : List ℕ) (moved : ℕ) (r : Named) : Type 0 where
+pub record FindsNames (text rows rows' : List ℕ) (moved : ℕ) (r : Result Named Fault) : Type 0 where
   pub size : length rows' ≡ length rows
-  pub early : r.first ≤ r.count
-  pub small : r.count ≤ 512
-  pub kept : r.fault.number ≡ 0 → Kept text rows' r.count
+  pub early : IfOk r (λ x. x.first ≤ x.count)
+  pub small : IfOk r (λ x. x.count ≤ 512)
+  pub kept : IfOk r (λ x. Kept text rows' x.count)
   pub finds : {at : ℕ} (s : StandsIn text at) → Finds text rows' moved r s
 
 -- all of this file computes where this is unfolded

@@ -2,6 +2,7 @@
 #![tactic(auto)]
 
 ghost use Rattle.std.specs.Prelude.{List, ◌≡◌, ◌-◌, ◌<◌, ◌≤◌, length, replicate};
+ghost use Rattle.base.specs.Faults.{fault_number};
 ghost use Rattle.partrules.specs.Opened.{RulesDone};
 ghost use Rattle.symbols.specs.Index.{Kept};
 ghost use Rattle.separate.specs.Answers.{Refused, Concludes, Makes};
@@ -10,6 +11,7 @@ ghost use Rattle.machine.specs.Bytes.{words_of};
 ghost use Rattle.separate.specs.Steps.{ReadsTexts, StandsIn, FindsNames};
 ghost use Rattle.separate.specs.Uses.{UsePut, UsesPut};
 
+use base::Refusal;
 use partrules::{Part, Rules, Spot};
 use partwriter::Sizes;
 
@@ -47,7 +49,6 @@ pub struct Texts {
 // The names of both texts: how many rows there are, and the first rule's.
 #[derive(Clone, Copy, Debug, PartialEq, Eq)]
 pub struct Named {
-    pub fault: Fault,
     pub count: usize,
     pub first: usize,
 }
@@ -120,47 +121,35 @@ fn read_texts(common: &[u8], part: &[u8]) -> Texts
 
 // Names
 
-fn unnamed(number: u16, text: usize, start: usize, len: usize) -> Named
-    ensures { (result.fault.number ≡ number) × (result.fault.text ≡ text) × (result.fault.start ≡ start) × (result.fault.len ≡ len) × (result.first ≡ 0) × (result.count ≡ 0) }
+// A refusal in a text whose words stand `moved` further on here.
+fn shown(e: Refusal, text: usize, moved: usize) -> Fault
+    ensures { (result.number ≡ fault_number e.fault) × (result.text ≡ text) × (result.start ≡ e.at - moved) × (result.len ≡ e.len) }
 {
-    let fault = Fault {
-        number,
+    Fault {
+        number: u16::from(e.fault),
         text,
-        start,
-        len,
-    };
-    Named {
-        fault,
-        count: 0,
-        first: 0,
+        start: e.at.saturating_sub(moved),
+        len: e.len,
     }
 }
 
 // Rows of the sections, the list and the other rules that the part names: 9 where these are too many, then the faults of the common part.
-fn find_names(text: &[u8], rows: &mut [u16], moved: usize) -> Named
+fn find_names(text: &[u8], rows: &mut [u16], moved: usize) -> Result<Named, Fault>
     requires { (length text.now ≤ 65535) × (length rows.old ≡ 6017) }
     ensures { FindsNames text.now rows.old rows.new moved result }
 {
     let d = partnames::declare(text, rows);
-    let a = partnames::add_others(text, rows, d.count, d.first, d.at);
-    if a.fault != 0 {
-        return unnamed(a.fault, PART, a.at.saturating_sub(moved), a.len);
-    }
-    let lines = d.count - d.first;
-    let s = partnames::settle(text, rows, a.count, d.first, lines);
-    if s.fault != 0 {
-        return unnamed(s.fault, COMMON, s.at, s.len);
-    }
-    let fault = Fault {
-        number: 0,
-        text: 0,
-        start: 0,
-        len: 0,
+    let count = match partnames::add_others(text, rows, d.count, d.first, d.at) {
+        Ok(count) => count,
+        Err(e) => return Err(shown(e, PART, moved)),
     };
-    Named {
-        fault,
-        count: a.count,
-        first: d.first,
+    let lines = d.count - d.first;
+    match partnames::settle(text, rows, count, d.first, lines) {
+        Ok(()) => Ok(Named {
+            count,
+            first: d.first,
+        }),
+        Err(e) => Err(shown(e, COMMON, 0)),
     }
 }
 
@@ -305,11 +294,10 @@ fn translate(
     ensures { TranslatesIn common.now size text.now at moved object.new result }
 {
     let mut rows = [0u16; partpairs::PART_ROWS];
-    let f = find_names(text, &mut rows[..ROWS], moved);
-    let fault = f.fault;
-    if fault.number != 0 {
-        return Written { fault, words: 0 };
-    }
+    let f = match find_names(text, &mut rows[..ROWS], moved) {
+        Ok(f) => f,
+        Err(fault) => return Written { fault, words: 0 },
+    };
     let mut signs = [0u16; partpairs::PART_PAIRS];
     let rules = f.count - f.first;
     let pairs = partpairs::pairs(text, &mut rows, &mut signs, f.count, rules, at);

@@ -6,4 +6,4 @@ pub link_common-requires : goal.link_common-requires
 link_common-requires c = is_read _ _ c.in-Ok.ensures
 
 pub returns-in-Err : goal.returns-in-Err
-returns-in-Err c = not-read _ _ (rw c.from.ensures at c.refuse.ensures) c.in-Err.ensures
+returns-in-Err c = not-read _ _ (rw c.in_common.ensures at c.refuse.ensures) c.in-Err.ensures

@@ -19,14 +19,14 @@ shape_of-rows-then-end c = c.loop-w.invariant.3
 pub returns-then-end : goal.returns-then-end
 returns-then-end c = c.loop-w.invariant.4 _ _ (adds_none c.loop-w.invariant.2 c.look-w.ensures c.stops-end.ensures c.if-end.true)
 
-pub add_name-c-requires : goal.add_name-c-requires
-add_name-c-requires c = (c.loop-w.invariant.1, c.loop-w.invariant.2, c.requires.2, c.look-w.ensures.inside)
+pub add_name-requires : goal.add_name-requires
+add_name-requires c = (c.loop-w.invariant.1, c.loop-w.invariant.2, c.requires.2, c.look-w.ensures.inside)
 
-pub shape_of-rows-then-c-gt-NAMES : goal.shape_of-rows-then-c-gt-NAMES
-shape_of-rows-then-c-gt-NAMES c = c.add_name-c.auto.rows ∙ c.loop-w.invariant.3
+pub shape_of-rows-in_default : goal.shape_of-rows-in_default
+shape_of-rows-in_default c = c.add_name.auto.rows ∙ c.loop-w.invariant.3
 
-pub returns-then-c-gt-NAMES : goal.returns-then-c-gt-NAMES
-returns-then-c-gt-NAMES c = c.loop-w.invariant.4 _ _ (adds-past c.loop-w.invariant.2 c.if-c-gt-NAMES.true c.look-w.ensures c.stops-end.ensures c.if-end.false c.add_name-c.ensures)
+pub returns-in_default : goal.returns-in_default
+returns-in_default c = c.loop-w.invariant.4 _ _ (adds-past c.loop-w.invariant.2 c.look-w.ensures c.stops-end.ensures c.if-end.false c.in_default.ensures)
 
 pub leads-led-requires : goal.leads-led-requires
 leads-led-requires c = tt
@@ -35,4 +35,4 @@ pub loop-w-smaller : goal.loop-w-smaller
 loop-w-smaller c = omega (arith, gets-on c.look-w.ensures c.stops-end.ensures c.if-end.false, c.look-w.ensures.high)
 
 pub loop-w-preserved : goal.loop-w-preserved
-loop-w-preserved c = (c.look-w.ensures.high, omega (arith, c.add_name-c.ensures.low, c.loop-w.invariant.1), omega (arith, c.if-c-gt-NAMES.false), c.add_name-c.auto.rows ∙ c.loop-w.invariant.3, λ rows' r e. c.loop-w.invariant.4 rows' r (adds_on c.loop-w.invariant.1 (omega (arith, c.if-c-gt-NAMES.false)) c.add_name-c.auto.rows c.look-w.ensures c.stops-end.ensures c.if-end.false c.add_name-c.ensures c.leads-led.ensures e))
+loop-w-preserved c = let u = c.in-Some.ensures in (c.look-w.ensures.high, omega (arith, u.low, c.loop-w.invariant.1), u.high, c.add_name.auto.rows ∙ c.loop-w.invariant.3, λ rows' r e. c.loop-w.invariant.4 rows' r (adds_on c.loop-w.invariant.1 u.high c.add_name.auto.rows c.look-w.ensures c.stops-end.ensures c.if-end.false u c.leads-led.ensures e))
