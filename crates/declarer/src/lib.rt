@@ -32,14 +32,6 @@ const SIDES: usize = base::NAMES;
 
 const MARKS: usize = SIDES + 32;
 
-// What `partnames::settle` tells: a fault's number with the place and the length of its word, or 0.
-#[derive(Clone, Copy, Debug, PartialEq, Eq)]
-pub struct Fault {
-    pub fault: u16,
-    pub at: usize,
-    pub len: usize,
-}
-
 // The class has the name of declaration i before it.
 fn name_known(text: &[u8], rows: &[u16], i: usize, class: usize) -> bool
     requires { Kept text.now rows.now i }
