@@ -38,6 +38,15 @@ values-next {T} {S} {called} {c} {k} {q} {p = p} u h x e = rw e (record { from =
       | no z ↦ let f : o ≡ p = omega arith in let n : ValueAt T called c k p rows i v = rw f at m in that n
     ]
 
+-- what is raised so far, by a test of what one more raised
+pub or-raised : (a b : Bool) → b ≡ true → true ≡ (a || b)
+or-raised true b e = refl
+or-raised false b e = sym e
+
+pub or-unraised : (a b : Bool) → b ≡ false → a ≡ (a || b)
+or-unraised true b e = refl
+or-unraised false b e = sym e
+
 -- places without a number set no value
 pub values-past : {T S called : List ℕ} {c k q to p n : ℕ} {rows after : List ℕ} {b : Bool} → ValuesUpto T S called c k q to p rows after b → p ≤ n → n ≤ to → NoneCalled called after p n
     → ValuesUpto T S called c k q to n rows after b

@@ -354,8 +354,11 @@ fn raise_values(program: Program, q: usize, c: usize, here: Spot, rows: &mut [u3
     // no range: places with no number are passed over
     while p < to {
         let more = raise_value(program, p, c, here, rows);
-        changed |= more;
         p = next_called(program.called, rows, p + 1, to);
+        // a test in the place of `|=`: on the ways that raise nothing, nothing is written
+        if more {
+            changed = true;
+        }
     }
     changed
 }

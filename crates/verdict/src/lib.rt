@@ -437,11 +437,11 @@ fn holds(cells: &[u16], from: usize, to: usize, v: u16) -> bool
     false
 }
 
-// A fact as one number, so that several are compared at once.
-fn packed(r: u16, v: u16) -> usize
+// A fact as one number, as wide as its two words, so that several are compared at once.
+fn packed(r: u16, v: u16) -> u32
     ensures { (result ≡ r + 65536 * v) × (r < 65536) }
 {
-    wide(r) + 65536 * wide(v)
+    u32::from(r) + 65536 * u32::from(v)
 }
 
 // Rule r is known to return v.

@@ -1,5 +1,5 @@
 use mathlib.Core.Path.{refl}
-use Rattle.meter.proofs.Sweeps.{values-first, values-next, values-past, values-all}
+use Rattle.meter.proofs.Sweeps.{or-raised, or-unraised, values-first, values-next, values-past, values-all}
 use Rattle.meter.proofs.Laws.{start-end, is-end}
 use borrow.Author.Rules.{rules}
 use native.Mathlib.Omega.{arith}
@@ -36,8 +36,12 @@ pub loop-p-smaller : goal.loop-p-smaller
 loop-p-smaller c = omega (arith, c.next_called-p.ensures.0, c.next_called-p.ensures.1)
 
 -- src/lib.rt:284:5
+pub loop-p-preserved-then-more : goal.loop-p-preserved-then-more
+loop-p-preserved-then-more c = (values-past (values-next c.loop-p.invariant.0 (search rules) c.raise_value-more.ensures (or-raised c.loop-p.changed c.raise_value-more.result c.if-more.true)) c.next_called-p.ensures.0 c.next_called-p.ensures.1 c.next_called-p.ensures.2, search rules)
+
+-- src/lib.rt:284:5
 pub loop-p-preserved : goal.loop-p-preserved
-loop-p-preserved c = (values-past (values-next c.loop-p.invariant.0 (search rules) c.raise_value-more.ensures refl) c.next_called-p.ensures.0 c.next_called-p.ensures.1 c.next_called-p.ensures.2, search rules)
+loop-p-preserved c = (values-past (values-next c.loop-p.invariant.0 (search rules) c.raise_value-more.ensures (or-unraised c.loop-p.changed c.raise_value-more.result c.if-more.false)) c.next_called-p.ensures.0 c.next_called-p.ensures.1 c.next_called-p.ensures.2, search rules)
 
 -- src/lib.rt:269:1
 pub returns : goal.returns
